@@ -1,0 +1,4 @@
+pub mod Lines
+pub mod Whole
+pub mod Decimal
+pub mod Walk

@@ -1,0 +1,39 @@
+//! The values of number words.
+
+ghost use Rattle.std.specs.Prelude.{◌≡◌};
+ghost use Rattle.book_text.specs.Whole.{whole_value};
+
+/// What is wrong with a number word.
+#[derive(Clone, Copy, Debug, PartialEq, Eq)]
+pub enum NumberFault {
+    /// It doesn't have a number's form.
+    NotNumber,
+    /// Its value is outside the range.
+    OutOfRange,
+}
+
+/// The most bytes of a number word.
+const MOST_DIGITS: usize = 30;
+
+/// The greatest value of a whole word.
+const MOST_WHOLE: u64 = 1 << 40;
+
+/// The value of a whole word, 1 to 30 digits and nothing else, of at most 2^40.
+pub fn read_whole(word: &[u8]) -> Result<u64, NumberFault>
+    ensures { result ≡ whole_value word.now }
+{
+    if word.is_empty()
+        || word.len() > MOST_DIGITS
+        || !word.iter().all(|byte| byte.is_ascii_digit())
+    {
+        return Err(NumberFault::NotNumber);
+    }
+    let mut value: u64 = 0;
+    for byte in word {
+        value = value * 10 + u64::from(*byte - b'0');
+        if value > MOST_WHOLE {
+            return Err(NumberFault::OutOfRange);
+        }
+    }
+    Ok(value)
+}
