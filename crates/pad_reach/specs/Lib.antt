@@ -1,0 +1,3 @@
+pub mod Chain
+pub mod Reaches
+pub mod Refusal

@@ -1,13 +1,20 @@
-// A library with one function.
+//! Which points lead to a pad: behind the network and before the equations.
+//!
+//! A web is a list of points with neighbours, some of which are anchored. What comes in is a web; what goes out is a step
+//! for each point, to a neighbour whose distance is one less, that leads to an anchored point, or exactly the first point
+//! from which no chain of neighbours leads to one. The equations of a placement have one exact solution at most where each
+//! point has such a chain.
+//!
+//! The contract: `reach` meets `Reaches`, and its refusal is `IsFirstUnanchored`.
 #![tactic(auto)]
 
-ghost use Rattle.std.specs.Prelude.{◌≡◌};
-ghost use Rattle.pad_reach.specs.Echo.{echo_of};
+mod search;
+mod steps;
+mod web;
 
-// The `ensures` clause is the contract: what `echo` returns is `echo_of` of its argument, a definition
-// in `specs/Echo.antt`, which a caller's clause can cite too.
-pub fn echo(x: usize) -> usize
-    ensures { result ≡ echo_of x }
-{
-    x
-}
+pub use search::{ReachError, reach};
+pub use steps::Reach;
+pub use web::Web;
+
+#[cfg(test)]
+mod tests;

@@ -1,0 +1,44 @@
+ghost use Rattle.std.specs.Prelude.{◌≡◌, ◌<◌, length};
+ghost use Rattle.pad_reach.specs.Reaches.{step_at};
+
+use std::marker::Model;
+
+/// A step for each point of a web, by which its chain to an anchored point goes on.
+#[derive(Drop)]
+pub struct Reach {
+    pub(crate) entries: Vec<Entry>,
+}
+
+/// What is known of a point: the neighbour that its chain goes on to, and its distance.
+#[derive(Clone, Copy, Debug)]
+pub(crate) struct Entry {
+    pub(crate) toward: Option<u32>,
+    pub(crate) distance: u32,
+}
+
+impl Model for Reach {
+    ghost use Rattle.std.specs.Prelude.{List, map};
+    ghost use Rattle.pad_reach.specs.Reaches.{Step};
+
+    ghost Value = { List Step };
+
+    ghost view = { λ r. map (λ entry. record { toward = entry.toward; distance = entry.distance }) r.entries.items };
+}
+
+impl Reach {
+    /// The neighbour to which the point's chain goes on. None for an anchored point.
+    pub fn toward(&self, i: usize) -> Option<u32>
+        requires { i < length self.now }
+        ensures { result ≡ (step_at self.now i).toward }
+    {
+        self.entries[i].toward
+    }
+
+    /// How many points come behind this one in its chain.
+    pub fn distance(&self, i: usize) -> u32
+        requires { i < length self.now }
+        ensures { result ≡ (step_at self.now i).distance }
+    {
+        self.entries[i].distance
+    }
+}
