@@ -1,0 +1,5 @@
+pub mod System
+pub mod Means
+pub mod Extremal
+pub mod Exact
+pub mod Sides

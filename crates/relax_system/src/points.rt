@@ -1,0 +1,109 @@
+ghost use Rattle.std.specs.Prelude.{◌≡◌, ◌++◌, [], ◌∷◌, OnOk, OnErr};
+
+use book_text::Memory;
+use std::alloc::Global;
+use std::marker::Model;
+
+/// A neighbour of a point and the weight of the pair.
+#[derive(Clone, Copy, Debug, PartialEq, Eq)]
+pub struct Near {
+    pub point: u32,
+    pub weight: u64,
+}
+
+/// The neighbours of a point. A neighbour may stand in several entries.
+#[derive(Drop)]
+pub struct NearList {
+    pub(crate) items: Vec<Near>,
+}
+
+impl Model for NearList {
+    ghost use Rattle.std.specs.Prelude.{List};
+    ghost use Rattle.relax_system.specs.declared.points.Near.{Near};
+
+    ghost Value = { List Near };
+
+    ghost view = { λ l. l.items.items };
+}
+
+impl NearList {
+    /// No neighbour. It takes no memory.
+    pub fn new(alloc: Global) -> NearList
+        ensures { result ≡ [] }
+    {
+        NearList {
+            items: Vec::new(alloc),
+        }
+    }
+
+    /// Appends a neighbour. On want of memory the list is as before.
+    pub fn push(&mut self, item: Near) -> Result<(), Memory>
+        ensures pushed { OnOk result (self.new ≡ self.old ++ item ∷ []) }
+        ensures kept { OnErr result (self.new ≡ self.old) }
+    {
+        Ok(self.items.push(item)?)
+    }
+
+    /// The neighbours.
+    pub fn as_slice(&self) -> &[Near]
+        ensures { result.now ≡ self.now }
+    {
+        &self.items
+    }
+}
+
+/// A point of a system.
+#[derive(Drop)]
+pub struct Point {
+    /// The bottom of the box.
+    pub lo: u64,
+    /// The top of the box.
+    pub hi: u64,
+    /// The neighbours, with the weights of the pairs.
+    pub near: NearList,
+    /// The total weight of the point's constants.
+    pub anchor: u64,
+    /// The sum of weight times coordinate over the point's constants.
+    pub anchored: u128,
+}
+
+/// The points of a system.
+#[derive(Drop)]
+pub struct Points {
+    pub(crate) items: Vec<Point>,
+}
+
+impl Model for Points {
+    ghost use Rattle.std.specs.Prelude.{List};
+    ghost use Rattle.relax_system.specs.declared.points.Point.{Point};
+
+    ghost Value = { List Point };
+
+    ghost view = { λ l. l.items.items };
+}
+
+impl Points {
+    /// No point. It takes no memory.
+    pub fn new(alloc: Global) -> Points
+        ensures { result ≡ [] }
+    {
+        Points {
+            items: Vec::new(alloc),
+        }
+    }
+
+    /// Appends a point. On want of memory the list is as before.
+    pub fn push(&mut self, item: Point) -> Result<(), Memory>
+        ensures pushed { OnOk result (self.new ≡ self.old ++ item ∷ []) }
+        ensures kept { OnErr result (self.new ≡ self.old) }
+    {
+        Ok(self.items.push(item)?)
+    }
+
+    /// The points.
+    pub fn as_slice(&self) -> &[Point]
+        ensures { result.now ≡ self.now }
+    {
+        &self.items
+    }
+}
