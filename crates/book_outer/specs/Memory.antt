@@ -1,0 +1,23 @@
+-- What a folder and a sink in memory hold.
+use Rattle.std.specs.Prelude.{ℕ, List, Option}
+use Rattle.book_outer.specs.Files.{FileEntry}
+use Rattle.book_outer.specs.Folder.{Reading}
+
+-- a folder in memory: its files, the numbers of the calls that are to fail, how many calls there were, and the rest
+pub record MemoryFiles : Type 0 where
+  pub files : List FileEntry
+  pub failing : List ℕ
+  pub calls : ℕ
+  pub reading : Option Reading
+  pub writing : Option (List ℕ)
+  pub begun : ℕ
+  pub missed : ℕ
+  pub read_faults : ℕ
+  pub write_faults : ℕ
+
+-- a sink in memory
+pub record MemoryBytes : Type 0 where
+  pub written : List ℕ
+  pub failing : List ℕ
+  pub calls : ℕ
+  pub faults : ℕ

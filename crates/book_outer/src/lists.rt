@@ -1,0 +1,138 @@
+ghost use Rattle.std.specs.Prelude.{◌≡◌, ◌<◌, ◌++◌, [], ◌∷◌, length, slice_index_or, OnOk, OnErr};
+
+use book_text::Memory;
+use std::alloc::Global;
+use std::marker::Model;
+
+/// A file of a folder in memory.
+#[derive(Drop)]
+pub(crate) struct File {
+    pub(crate) name: String,
+    pub(crate) bytes: Vec<u8>,
+}
+
+/// Files for a folder in memory, each with its name.
+#[derive(Drop)]
+pub struct Files {
+    pub(crate) alloc: Global,
+    pub(crate) items: Vec<File>,
+}
+
+impl Model for Files {
+    ghost use Rattle.std.specs.Prelude.{List, map, string_bytes};
+    ghost use Rattle.book_outer.specs.Files.{FileEntry};
+
+    ghost Value = { List FileEntry };
+
+    ghost view = { λ f. map (λ file. record { name = string_bytes file.name; bytes = file.bytes.items }) f.items.items };
+}
+
+impl Files {
+    /// No files. It takes no memory.
+    pub fn new(alloc: Global) -> Files
+        ensures { result ≡ [] }
+    {
+        Files {
+            alloc,
+            items: Vec::new(alloc),
+        }
+    }
+
+    /// Adds a file. On want of memory the list is as before.
+    pub fn push(&mut self, name: &str, bytes: &[u8]) -> Result<(), Memory>
+        ensures pushed { OnOk result (self.new ≡ self.old ++ record { name = name.now; bytes = bytes.now } ∷ []) }
+        ensures kept { OnErr result (self.new ≡ self.old) }
+    {
+        todo
+    }
+}
+
+/// Numbers of calls, counted from 1.
+#[derive(Drop)]
+pub struct Calls {
+    items: Vec<u64>,
+}
+
+impl Model for Calls {
+    ghost use Rattle.std.specs.Prelude.{ℕ, List};
+
+    ghost Value = { List ℕ };
+
+    ghost view = { λ c. c.items.items };
+}
+
+impl Calls {
+    /// No call. It takes no memory.
+    pub fn new(alloc: Global) -> Calls
+        ensures { result ≡ [] }
+    {
+        Calls {
+            items: Vec::new(alloc),
+        }
+    }
+
+    /// Adds the number of a call. On want of memory the list is as before.
+    pub fn push(&mut self, item: u64) -> Result<(), Memory>
+        ensures pushed { OnOk result (self.new ≡ self.old ++ item ∷ []) }
+        ensures kept { OnErr result (self.new ≡ self.old) }
+    {
+        Ok(self.items.push(item)?)
+    }
+
+    /// The numbers.
+    pub fn as_slice(&self) -> &[u64]
+        ensures { result.now ≡ self.now }
+    {
+        &self.items
+    }
+}
+
+/// The words of a command line. The first is the program's name.
+#[derive(Drop)]
+pub struct Words {
+    alloc: Global,
+    items: Vec<String>,
+}
+
+impl Model for Words {
+    ghost use Rattle.std.specs.Prelude.{ℕ, List, map, string_bytes};
+
+    ghost Value = { List (List ℕ) };
+
+    ghost view = { λ w. map (λ word. string_bytes word) w.items.items };
+}
+
+impl Words {
+    /// No words. It takes no memory.
+    pub fn new(alloc: Global) -> Words
+        ensures { result ≡ [] }
+    {
+        Words {
+            alloc,
+            items: Vec::new(alloc),
+        }
+    }
+
+    /// Adds a word. On want of memory the list is as before.
+    pub fn push(&mut self, word: &str) -> Result<(), Memory>
+        ensures pushed { OnOk result (self.new ≡ self.old ++ word.now ∷ []) }
+        ensures kept { OnErr result (self.new ≡ self.old) }
+    {
+        todo
+    }
+
+    /// How many words there are.
+    pub fn len(&self) -> usize
+        ensures { result ≡ length self.now }
+    {
+        self.items.len()
+    }
+
+    /// The word at a place, counted from 0.
+    pub fn word(&self, at: usize) -> &str
+        requires { at < length self.now }
+        ensures { result.now ≡ slice_index_or self.now at [] }
+    {
+        self.items[at].as_str()
+    }
+}
