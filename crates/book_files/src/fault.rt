@@ -1,0 +1,52 @@
+ghost use Rattle.std.specs.Prelude.{◌≡◌};
+
+use std::alloc::{AllocError, AllocFailed};
+
+/// What is wrong with a line, or with the whole at its end.
+#[derive(Clone, Copy, Debug, PartialEq, Eq)]
+pub enum TextKind {
+    /// The first line isn't the file's header, or there is no line.
+    BadHeader,
+    /// The line has another shape.
+    BadLine,
+    /// A word in a number's place isn't a number in range.
+    BadNumber,
+    /// A stated count isn't the count of what stands there.
+    CountMismatch { told: u64, found: u64 },
+}
+
+/// The first fault of a text. The line behind the last one is meant where the fault is seen at the end.
+#[derive(Clone, Copy, Debug, PartialEq, Eq)]
+pub struct TextFault {
+    pub line: u64,
+    pub kind: TextKind,
+}
+
+/// Why a file gave no records.
+#[derive(Clone, Copy, Debug, PartialEq, Eq)]
+pub enum ReadError {
+    /// The text's first fault.
+    Fault(TextFault),
+    /// Want of memory.
+    Memory,
+}
+
+impl From<AllocError> for ReadError {
+    ghost use Rattle.book_files.specs.declared.fault.ReadError.TheVariants.{Memory};
+
+    ghost from_gives = { λ _ e. e ≡ Memory };
+
+    fn from(_: AllocError) -> ReadError {
+        ReadError::Memory
+    }
+}
+
+impl<T: Drop> From<AllocFailed<T>> for ReadError {
+    ghost use Rattle.book_files.specs.declared.fault.ReadError.TheVariants.{Memory};
+
+    ghost from_gives = { λ _ e. e ≡ Memory };
+
+    fn from(_: AllocFailed<T>) -> ReadError {
+        ReadError::Memory
+    }
+}
