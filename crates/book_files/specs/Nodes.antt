@@ -4,7 +4,7 @@ use Rattle.book_text.specs.Lines.{NumberedLine}
 use Rattle.book_files.specs.declared.fault.TextKind.{TextKind}
 use Rattle.book_files.specs.declared.fault.TextKind.TheVariants.{BadHeader, BadLine, CountMismatch}
 use Rattle.book_files.specs.Form.{Form}
-use Rattle.book_files.specs.Words.{◌>>=◌, is_header, is_keyed, is_keyword, count_of, size_of}
+use Rattle.book_files.specs.Words.{◌>>=◌, latest, is_header, is_keyed, is_keyword, count_of, size_of}
 use Rattle.book_files.specs.Entries.{NodeEntry}
 
 -- what a line of a nodes file is
@@ -31,14 +31,6 @@ node_in header = None
 node_in (total n) = None
 node_in (terminals t) = None
 node_in (node entry) = Some entry
-
--- the last that the items have of a kind
-abbrev pub latest : {I A : Type 0} → (I → Option A) → List I → Option A
-latest {I} {A} f items = last_of (filter_map f items) where
-  last_of : List A → Option A
-  last_of [] = None
-  last_of (x ∷ []) = Some x
-  last_of (x ∷ y ∷ rest) = last_of (y ∷ rest)
 
 -- a node with its sizes, tested from left to right
 abbrev pub sized : ℕ → List ℕ → List ℕ → List ℕ → Bool → Result NodeItem TextKind

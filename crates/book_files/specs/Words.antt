@@ -1,7 +1,7 @@
 -- Keywords, numbers and count lines.
 use Rattle.std.specs.Prelude.{ℕ, Bool, true, false, ◌&&◌, ◌||◌, List, [], ◌∷◌, length, map, codes, bytes_eq, ℤ, pos, int_lt, Option, Some, None, Result, Ok, Err, if◌then◌else◌}
 use Rattle.std.specs.Char.{to_ascii_lowercase}
-use Rattle.std.specs.List.{find, list_any}
+use Rattle.std.specs.List.{filter_map}
 use Rattle.book_text.specs.declared.number.NumberFault.{NumberFault}
 use Rattle.book_text.specs.Whole.{whole_value}
 use Rattle.book_text.specs.Decimal.{micro_value}
@@ -60,3 +60,13 @@ count_of told [] = Err BadLine
 count_of told (key ∷ []) = Err BadLine
 count_of told (key ∷ colon ∷ []) = Err BadLine
 count_of told (key ∷ colon ∷ number ∷ more ∷ rest) = Err BadLine
+
+-- the last of a list
+abbrev pub last_of : {A : Type 0} → List A → Option A
+last_of [] = None
+last_of (x ∷ []) = Some x
+last_of (x ∷ y ∷ rest) = last_of (y ∷ rest)
+
+-- the last that the items have of a kind
+abbrev pub latest : {I A : Type 0} → (I → Option A) → List I → Option A
+latest kind items = last_of (filter_map kind items)
