@@ -1,4 +1,4 @@
-ghost use Rattle.std.specs.Prelude.{◌≡◌, ◌<◌, ◌++◌, [], ◌∷◌, length, slice_index_or, OnOk, OnErr};
+ghost use Rattle.std.specs.Prelude.{◌≡◌, ◌<◌, ◌++◌, [], ◌∷◌, length, slice_index_or, string_bytes, IfOk, OnOk, OnErr};
 
 use book_text::Memory;
 use std::alloc::Global;
@@ -9,6 +9,18 @@ use std::marker::Model;
 pub(crate) struct File {
     pub(crate) name: String,
     pub(crate) bytes: Vec<u8>,
+}
+
+impl File {
+    fn copied(alloc: Global, name: &str, bytes: &[u8]) -> Result<File, Memory>
+        ensures name { IfOk result (λ file. string_bytes file.name ≡ name.now) }
+        ensures bytes { IfOk result (λ file. file.bytes.items ≡ bytes.now) }
+    {
+        Ok(File {
+            name: String::from_str(alloc, name)?,
+            bytes: bytes.to_vec(alloc)?,
+        })
+    }
 }
 
 /// Files for a folder in memory, each with its name.
@@ -43,7 +55,7 @@ impl Files {
         ensures pushed { OnOk result (self.new ≡ self.old ++ record { name = name.now; bytes = bytes.now } ∷ []) }
         ensures kept { OnErr result (self.new ≡ self.old) }
     {
-        todo
+        Ok(self.items.push(File::copied(self.alloc, name, bytes)?)?)
     }
 }
 
@@ -118,7 +130,7 @@ impl Words {
         ensures pushed { OnOk result (self.new ≡ self.old ++ word.now ∷ []) }
         ensures kept { OnErr result (self.new ≡ self.old) }
     {
-        todo
+        Ok(self.items.push(String::from_str(self.alloc, word)?)?)
     }
 
     /// How many words there are.
