@@ -1,5 +1,6 @@
 -- Files in memory, and places in them.
 use Rattle.std.specs.Prelude.{◌≡◌, ℕ, ◌<◌, List, [], length, map, Option, Some, None, string_bytes, slice_index_or, slice_set}
+use Rattle.std.specs.Option.{ForSome}
 use Rattle.book_outer.specs.Files.{FileEntry, place_of, content}
 use Rattle.book_outer.specs.Folder.{Reading}
 use Rattle.book_outer.specs.declared.lists.File.{File}
@@ -48,3 +49,8 @@ reading_of files (Some open_file) = Some (record { name = (entry_at files open_f
 abbrev pub writing_of : List FileEntry → Option ℕ → Option (List ℕ)
 writing_of files None = None
 writing_of files (Some at) = Some (entry_at files at).name
+
+-- the files that are read and written are found
+pub record AreOpenFound (files : List FileEntry) (reading : Option Open) (writing : Option ℕ) : Type 0 where
+  pub read : ForSome reading (λ open_file. IsFound files open_file.file)
+  pub written : ForSome writing (IsFound files)

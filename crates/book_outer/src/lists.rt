@@ -62,7 +62,7 @@ impl Files {
 
 impl Files {
     ghost use Rattle.std.specs.Prelude.{None, MatchOption};
-    ghost use Rattle.book_outer.specs.Files.{content};
+    ghost use Rattle.book_outer.specs.Files.{content, with_content};
     ghost use Rattle.book_outer.specs.Store.{IsNamed};
 
     /// The place of the first file of that name.
@@ -80,8 +80,32 @@ impl Files {
         &self.items[at].bytes
     }
 
-    /// Empties the file at a place.
-    pub(crate) fn empty(&mut self, at: usize)
+    /// Makes the file of that name empty, or adds one, and says where it stands.
+    pub(crate) fn create(&mut self, name: &str) -> Result<usize, Memory>
+        ensures created { OnOk result (self.new ≡ with_content self.old name.now []) }
+        ensures place { IfOk result (IsNamed self.new name.now) }
+        ensures kept { OnErr result (self.new ≡ self.old) }
+    {
+        match self.find(name) {
+            Some(at) => {
+                self.empty(at);
+                Ok(at)
+            }
+            None => {
+                let at = self.len();
+                self.push(name, &[])?;
+                Ok(at)
+            }
+        }
+    }
+
+    fn len(&self) -> usize
+        ensures { result ≡ length self.now }
+    {
+        self.items.len()
+    }
+
+    fn empty(&mut self, at: usize)
         requires { at < length self.old }
         ensures { self.new ≡ with_bytes self.old at [] }
     {
