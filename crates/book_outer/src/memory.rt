@@ -109,17 +109,49 @@ impl Folder for MemFolder {
         counted(&mut self.read_faults, self.store.begin(name, fails))
     }
 
-    fn read(&mut self, buf: &mut [u8]) -> Result<usize, Trouble> {
+    fn read(&mut self, buf: &mut [u8]) -> Result<usize, Trouble>
+        requires room { 0 < length buf.old }
+        requires begun { IsSome self.old.reading }
+        ensures answer { MatchBool (is_to_fail self.old.failing self.old.calls) (result ≡ Err Trouble.Failed) (IsOk result) }
+        ensures calls { self.new.calls ≡ one_more self.old.calls }
+        ensures failing { self.new.failing ≡ self.old.failing }
+        ensures reads { Reads (Some self.old.files) self.old.reading buf.old buf.new result self.new.reading }
+        ensures files { self.new.files ≡ self.old.files }
+        ensures writing { self.new.writing ≡ self.old.writing }
+        ensures begun { self.new.begun ≡ self.old.begun }
+        ensures missed { self.new.missed ≡ self.old.missed }
+        ensures cause { HasCause self.old.read_faults self.new.read_faults result }
+        ensures write_faults { self.new.write_faults ≡ self.old.write_faults }
+    {
         let fails = next_fails(&mut self.calls, &self.failing);
         counted(&mut self.read_faults, self.store.read(buf, fails))
     }
 
-    fn create(&mut self, name: &str) -> Result<(), Trouble> {
+    fn create(&mut self, name: &str) -> Result<(), Trouble>
+        ensures answer { MatchBool (is_to_fail self.old.failing self.old.calls) (result ≡ Err Trouble.Failed) (IsOkUnless result Trouble.Memory) }
+        ensures calls { self.new.calls ≡ one_more self.old.calls }
+        ensures failing { self.new.failing ≡ self.old.failing }
+        ensures creates { Creates (Some self.old.files) (Some self.new.files) name.now result self.new.writing }
+        ensures begun { self.new.begun ≡ self.old.begun }
+        ensures missed { self.new.missed ≡ self.old.missed }
+        ensures cause { HasCause self.old.write_faults self.new.write_faults result }
+        ensures read_faults { self.new.read_faults ≡ self.old.read_faults }
+    {
         let fails = next_fails(&mut self.calls, &self.failing);
         counted(&mut self.write_faults, self.store.create(name, fails))
     }
 
-    fn put(&mut self, bytes: &[u8]) -> Result<(), Trouble> {
+    fn put(&mut self, bytes: &[u8]) -> Result<(), Trouble>
+        requires { IsSome self.old.writing }
+        ensures answer { MatchBool (is_to_fail self.old.failing self.old.calls) (result ≡ Err Trouble.Failed) (IsOkUnless result Trouble.Memory) }
+        ensures calls { self.new.calls ≡ one_more self.old.calls }
+        ensures failing { self.new.failing ≡ self.old.failing }
+        ensures puts { Puts (Some self.old.files) self.old.writing bytes.now result (Some self.new.files) self.new.writing }
+        ensures begun { self.new.begun ≡ self.old.begun }
+        ensures missed { self.new.missed ≡ self.old.missed }
+        ensures cause { HasCause self.old.write_faults self.new.write_faults result }
+        ensures read_faults { self.new.read_faults ≡ self.old.read_faults }
+    {
         let fails = next_fails(&mut self.calls, &self.failing);
         counted(&mut self.write_faults, self.store.put(bytes, fails))
     }
@@ -168,7 +200,13 @@ impl Sink for MemSink {
 
     ghost faults = { λ m. m.faults };
 
-    fn put(&mut self, bytes: &[u8]) -> Result<(), Trouble> {
+    fn put(&mut self, bytes: &[u8]) -> Result<(), Trouble>
+        ensures answer { MatchBool (is_to_fail self.old.failing self.old.calls) (result ≡ Err Trouble.Failed) (IsOkUnless result Trouble.Memory) }
+        ensures calls { self.new.calls ≡ one_more self.old.calls }
+        ensures failing { self.new.failing ≡ self.old.failing }
+        ensures gets { Gets (Some self.old.written) (Some self.new.written) bytes.now result }
+        ensures cause { HasCause self.old.faults self.new.faults result }
+    {
         let fails = next_fails(&mut self.calls, &self.failing);
         counted(&mut self.faults, append(&mut self.written, bytes, fails))
     }
