@@ -1,5 +1,5 @@
 -- Lists of files, by names and places.
-use Rattle.std.proofs.Common.{arith, subst, add-zero, ◌≡◌, ℕ, ◌+◌, ◌<◌, ◌≤◌, Bool, true, false, not, cond, List, [], ◌∷◌, ◌++◌, length, map, set, get_or, Option, Some, None, MatchOption, option_map, slice_get, nat_lt, refl, ap, ◌∙◌, sym, inl, inr, position, bytes_eq, Vec}
+use Rattle.std.proofs.Common.{arith, subst, add-zero, ◌≡◌, ℕ, ◌+◌, ◌<◌, Bool, true, not, cond, List, [], ◌∷◌, ◌++◌, length, map, set, get_or, Option, Some, None, MatchOption, option_map, slice_get, nat_lt, refl, ap, ◌∙◌, sym, inl, inr, position, bytes_eq, Vec}
 use Rattle.std.specs.List.{position_or_len, prefix_len}
 use Rattle.std.specs.declared.alloc.Global.{Global}
 use Rattle.std.proofs.lemmas.List.{length-map, map-set, get_or-map, set-get_or, get_or-set_same, get_or-set_other, set_past, length-set, length-take, length_push, get_or_append_left, get_or_push}
@@ -68,7 +68,7 @@ named-found files at found = record {
   named = refl;
   place = found.first;
   holds = ap (λ n. option_map (λ (file : FileEntry). file.bytes) (slice_get files n)) found.first
-    ∙ ap (option_map (λ (file : FileEntry). file.bytes)) (slice_get-get_or files at (record { name = []; bytes = [] }) found.inside);
+      ∙ ap (option_map (λ (file : FileEntry). file.bytes)) (slice_get-get_or files at (record { name = []; bytes = [] }) found.inside);
 }
 
 -- ---- other bytes in a file
@@ -120,9 +120,9 @@ found-push files file k found =
     record {
       inside = omega (arith, length_push files file, inside);
       first = ap (place_of (files ++ file ∷ [])) (name-push files file k inside)
-        ∙ position_or_len_push (λ (f : FileEntry). bytes_eq f.name name) files file
-        ∙ cond-false _ _ _ (ne_eqb (place_of files name) (length files) before)
-        ∙ found.first;
+          ∙ position_or_len_push (λ (f : FileEntry). bytes_eq f.name name) files file
+          ∙ cond-false _ _ _ (ne_eqb (place_of files name) (length files) before)
+          ∙ found.first;
     }
 
 -- where no file has that name
@@ -147,10 +147,10 @@ named-push files name bytes none =
     let here : (entry_at now at).name ≡ name = ap (λ (f : FileEntry). f.name) (get_or_push files file (record { name = []; bytes = [] }) at refl) in
     let itself : bytes_eq name name ≡ true = (bytes_eq-Decides name name).1 refl in
     let place : place_of now name ≡ at =
-        position_or_len_push (λ (f : FileEntry). bytes_eq f.name name) files file
-        ∙ cond-true _ _ _ (eq-eqb (place_of files name) at (place-absent files name none))
-        ∙ ap (λ b. at + cond b 0 1) itself
-        ∙ add-zero at in
+    position_or_len_push (λ (f : FileEntry). bytes_eq f.name name) files file
+    ∙ cond-true _ _ _ (eq-eqb (place_of files name) at (place-absent files name none))
+    ∙ ap (λ b. at + cond b 0 1) itself
+    ∙ add-zero at in
     let found : IsFound now at = record { inside = omega (arith, length_push files file); first = ap (place_of now) here ∙ place } in
     subst (λ n. IsNamed now n at) here (named-found now at found)
 

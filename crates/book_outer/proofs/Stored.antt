@@ -1,12 +1,12 @@
 -- What the calls of a store do, told by its fields.
-use Rattle.std.proofs.Common.{◌≡◌, ℕ, ◌+◌, List, [], ◌++◌, drop, take, Option, Some, None, unwrap_or, refl, sym, ap, subst, ◌∙◌}
+use Rattle.std.proofs.Common.{◌≡◌, ℕ, ◌+◌, List, [], ◌++◌, drop, Option, Some, None, unwrap_or, refl, sym, ap, subst, ◌∙◌}
 use Rattle.std.proofs.lemmas.List.{append-nil}
 use Rattle.std.proofs.lemmas.Option.{none-some, same_Some}
 use Rattle.book_outer.specs.declared.store.Open.{Open}
 use Rattle.book_outer.specs.Files.{FileEntry}
 use Rattle.book_outer.specs.Folder.{Grows, ReadsOn, TakesFront, bytes_of}
-use Rattle.book_outer.specs.Store.{entry_at, with_bytes, IsFound, IsNamed, AreOpenFound, reading_of, writing_of}
-use Rattle.book_outer.proofs.Entries.{named-found, with_content-named, with_bytes-same, name-with_bytes, found-with_bytes}
+use Rattle.book_outer.specs.Store.{entry_at, with_bytes, IsFound, AreOpenFound, reading_of, writing_of}
+use Rattle.book_outer.proofs.Entries.{named-found, with_content-named, with_bytes-same, name-with_bytes}
 
 -- what a file that is found holds
 bytes-found : (files : List FileEntry) (at : ℕ) → IsFound files at → bytes_of files (entry_at files at).name ≡ (entry_at files at).bytes
@@ -24,15 +24,16 @@ puts_all files new None at bytes is found now = absurd (none-some at is)
 puts_all files new (Some w) at bytes is found now =
     let same : at ≡ w = sym (same_Some w at is) in
     let entry = entry_at files at in
-    subst (λ k. Grows (Some files) (Some (entry_at files k).name) bytes (Some new) × (Some (entry_at new k).name ≡ Some (entry_at files k).name)) same
-        ( subst (λ f. Grows (Some files) (Some entry.name) bytes (Some f)) (sym now) (grows files at bytes found),
-          ap Some (ap (λ f. (entry_at f at).name) now ∙ name-with_bytes files at at (entry.bytes ++ bytes)) )
+    subst (λ k. Grows (Some files) (Some (entry_at files k).name) bytes (Some new) × (Some (entry_at new k).name ≡ Some (entry_at files k).name)) same (
+      subst (λ f. Grows (Some files) (Some entry.name) bytes (Some f)) (sym now) (grows files at bytes found),
+      ap Some (ap (λ f. (entry_at f at).name) now ∙ name-with_bytes files at at (entry.bytes ++ bytes)),
+    )
 
 -- a `put` of nothing
 pub puts_none : (files new : List FileEntry) (writing : Option ℕ) (at : ℕ) → writing ≡ Some at → IsFound files at → new ≡ files → Grows (Some files) (writing_of files writing) [] (Some new)
 puts_none files new writing at is found now =
     (puts_all files new writing at [] is found
-        (now ∙ sym (with_bytes-same files at) ∙ ap (with_bytes files at) (sym (append-nil (entry_at files at).bytes)))).0
+    (now ∙ sym (with_bytes-same files at) ∙ ap (with_bytes files at) (sym (append-nil (entry_at files at).bytes)))).0
 
 -- a `read`
 pub reads_on : (files : List FileEntry) (reading : Option Open) (open_file : Open) (buffer after : List ℕ) (n : ℕ) → reading ≡ Some open_file → IsFound files open_file.file
@@ -42,7 +43,7 @@ reads_on files None open_file buffer after n is found takes = absurd (none-some 
 reads_on files (Some r) open_file buffer after n is found takes =
     let at = open_file.file in
     subst (λ (o : Open). ReadsOn (Some files) (reading_of files (Some o)) buffer after n (Some (record { name = (entry_at files at).name; place = open_file.place + n }))) (sym (same_Some r open_file is))
-        (subst (λ b. TakesFront (drop open_file.place b) buffer after n) (sym (bytes-found files at found)) takes, refl)
+    (subst (λ b. TakesFront (drop open_file.place b) buffer after n) (sym (bytes-found files at found)) takes, refl)
 
 -- ---- the files that are open are found afterwards too
 

@@ -31,15 +31,15 @@ impl Model for MemFolder {
     ghost Value = { MemoryFiles };
 
     ghost view = { λ m. record {
-        files = m.store.files;
-        failing = m.failing;
-        calls = m.calls;
-        reading = m.store.reading;
-        writing = m.store.writing;
-        begun = m.store.begun;
-        missed = m.store.missed;
-        read_faults = m.read_faults;
-        write_faults = m.write_faults
+      files = m.store.files;
+      failing = m.failing;
+      calls = m.calls;
+      reading = m.store.reading;
+      writing = m.store.writing;
+      begun = m.store.begun;
+      missed = m.store.missed;
+      read_faults = m.read_faults;
+      write_faults = m.write_faults;
     } };
 }
 
@@ -49,15 +49,15 @@ impl MemFolder {
     pub fn new(files: Files, failing: Calls) -> MemFolder
         requires { AreNamesDistinct files }
         ensures { result ≡ record {
-            files = files;
-            failing = failing;
-            calls = 0;
-            reading = None;
-            writing = None;
-            begun = 0;
-            missed = 0;
-            read_faults = 0;
-            write_faults = 0
+          files = files;
+          failing = failing;
+          calls = 0;
+          reading = None;
+          writing = None;
+          begun = 0;
+          missed = 0;
+          read_faults = 0;
+          write_faults = 0;
         } }
     {
         MemFolder {

@@ -32,11 +32,11 @@ impl Model for Store {
     ghost Value = { Stored };
 
     ghost view = { λ s. record {
-        files = s.files;
-        reading = reading_of s.files s.reading;
-        writing = writing_of s.files s.writing;
-        begun = s.begun;
-        missed = s.missed
+      files = s.files;
+      reading = reading_of s.files s.reading;
+      writing = writing_of s.files s.writing;
+      begun = s.begun;
+      missed = s.missed;
     } };
 
     ghost invariant = { λ s. AreOpenFound s.files s.reading s.writing };

@@ -12,9 +12,9 @@ returns-in_err-extend_from_slice-clause-kept c =
     let file = c.index-files-at.result in
     let same = c.in_err-extend_from_slice.ensures.items in
     rw (p.1) (entries-set files c.args.at file c.extend_from_slice.new.self c.requires
-        ∙ ap (with_bytes (entries files) c.args.at)
-            (same ∙ ap (λ (e : FileEntry). e.bytes) (sym (entry_at-entries files c.args.at file c.requires)))
-        ∙ with_bytes-same (entries files) c.args.at)
+    ∙ ap (with_bytes (entries files) c.args.at)
+    (same ∙ ap (λ (e : FileEntry). e.bytes) (sym (entry_at-entries files c.args.at file c.requires)))
+    ∙ with_bytes-same (entries files) c.args.at)
 
 pub returns-clause-extended : goal.returns-clause-extended
 returns-clause-extended c =
@@ -23,4 +23,4 @@ returns-clause-extended c =
     let grown = c.in_ok-extend_from_slice.ensures.items in
     entries-set files c.args.at file c.extend_from_slice.new.self c.requires
     ∙ ap (with_bytes (entries files) c.args.at)
-        (grown ∙ ap (λ (e : FileEntry). e.bytes ++ c.args.bytes.now) (sym (entry_at-entries files c.args.at file c.requires)))
+    (grown ∙ ap (λ (e : FileEntry). e.bytes ++ c.args.bytes.now) (sym (entry_at-entries files c.args.at file c.requires)))

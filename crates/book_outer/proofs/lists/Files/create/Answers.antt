@@ -1,4 +1,4 @@
-use Rattle.std.proofs.Common.{[], length, sym, subst, ◌∙◌}
+use Rattle.std.proofs.Common.{[], sym, subst, ◌∙◌}
 use Rattle.book_outer.specs.Store.{IsNamed}
 use Rattle.book_outer.proofs.Entries.{with_content-absent, named-with_bytes, named-push}
 use Rattle.book_outer.proofs.lists.Files.create.Goals as goal
@@ -17,4 +17,4 @@ returns-in_ok-push-in-None-clause-place c =
     let name = c.args.name.now in
     let pushed = named-push c.args.self.now name [] c.in-None.ensures in
     subst (λ files. IsNamed files name c.len-at.result) (sym c.in_ok-push-in-None.ensures.pushed)
-        (subst (IsNamed _ name) (sym c.len-at.ensures) pushed)
+    (subst (IsNamed _ name) (sym c.len-at.ensures) pushed)

@@ -8,6 +8,6 @@ pub returns : goal.returns
 returns c =
     let has_name = λ (file : FileEntry). bytes_eq file.name c.args.name.now in
     searched c.args.self.now c.args.name.now c.position_of.result
-        (c.position_of.ensures
-        ∙ sym (position-map has_name entry_of c.deref.result.now)
-        ∙ ap (position has_name) (ap entries c.deref.ensures.value ∙ c.self.view_is))
+    (c.position_of.ensures
+    ∙ sym (position-map has_name entry_of c.deref.result.now)
+    ∙ ap (position has_name) (ap entries c.deref.ensures.value ∙ c.self.view_is))

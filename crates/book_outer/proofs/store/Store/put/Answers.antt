@@ -1,6 +1,5 @@
-use Rattle.std.proofs.Common.{◌≡◌, ℕ, ◌++◌, List, Some, take, refl, sym, subst}
+use Rattle.std.proofs.Common.{◌≡◌, ℕ, ◌++◌, Some, take, refl, sym, subst}
 use Rattle.std.proofs.lemmas.Result.{err_from_is_err_and}
-use Rattle.book_outer.specs.Files.{FileEntry}
 use Rattle.book_outer.specs.Folder.{Grows}
 use Rattle.book_outer.specs.Store.{Stored, IsFound, entry_at, writing_of}
 use Rattle.book_outer.proofs.Entries.{found-with_bytes}
@@ -20,7 +19,7 @@ extend-requires c = (c.self.invariant.written c.unwrap-at.result c.unwrap-at.ens
 pub invariant_of-self : goal.invariant_of-self
 invariant_of-self c =
     open_kept c.self.inside.files c.extend.new.self c.self.inside.reading c.self.inside.writing c.self.invariant
-        (λ k found. subst (λ files. IsFound files k) (sym c.in_err-extend.ensures.kept) found)
+    (λ k found. subst (λ files. IsFound files k) (sym c.in_err-extend.ensures.kept) found)
 
 pub returns-in_err-extend-clause-puts : goal.returns-in_err-extend-clause-puts
 returns-in_err-extend-clause-puts c =
@@ -35,7 +34,7 @@ invariant_of-self-2 c =
     let files = c.self.inside.files in
     let at = c.unwrap-at.result in
     open_kept files c.extend.new.self c.self.inside.reading c.self.inside.writing c.self.invariant
-        (λ k found. subst (λ new. IsFound new k) (sym c.in_ok-extend.ensures.extended) (found-with_bytes files at k ((entry_at files at).bytes ++ c.args.bytes.now) found))
+    (λ k found. subst (λ new. IsFound new k) (sym c.in_ok-extend.ensures.extended) (found-with_bytes files at k ((entry_at files at).bytes ++ c.args.bytes.now) found))
 
 pub returns-clause-puts : goal.returns-clause-puts
 returns-clause-puts c =

@@ -1,4 +1,4 @@
-use Rattle.std.proofs.Common.{ℕ, ◌+◌, ◌≤◌, length, Some, drop, sym, subst}
+use Rattle.std.proofs.Common.{◌+◌, Some, drop, subst}
 use Rattle.std.proofs.lemmas.Option.{same_Some}
 use Rattle.book_outer.specs.declared.store.Open.{Open}
 use Rattle.book_outer.specs.Folder.{ReadsOn, TakesFront}
