@@ -19,8 +19,11 @@ node_entries nodes = map node_entry nodes
 abbrev pub net_entries : List Net → List narrow.NetEntry
 net_entries nets = map (λ net. record { first = net.first; second = net.second }) nets
 
+abbrev pub place_entry : Place → narrow.PlaceEntry
+place_entry place = record { x = place.x; y = place.y }
+
 abbrev pub place_entries : List Place → List narrow.PlaceEntry
-place_entries places = map (λ place. record { x = place.x; y = place.y }) places
+place_entries places = map place_entry places
 
 abbrev pub row_entry : Row → narrow.RowEntry
 row_entry row = record { y = row.y; height = row.height; width = row.width; spacing = row.spacing; x = row.x; sites = row.sites }
