@@ -1,14 +1,15 @@
 -- The narrow form read from left to right: what lines of words give, or nothing where they aren't in the form.
-use Rattle.std.specs.Prelude.{◌≡◌, ℕ, ◌+◌, ◌*◌, ◌<◌, ◌≤◌, Bool, true, false, ◌&&◌, ◌==◌, zero, suc, nat_eq, List, [], ◌∷◌, ◌++◌, length, map, codes, position, Option, Some, None, option_and_then, Result, Ok, Err, nat_le, if◌then◌else◌}
+use Rattle.std.specs.Prelude.{◌≡◌, ℕ, ◌+◌, ◌*◌, ◌<◌, ◌≤◌, Bool, true, false, ◌&&◌, ◌==◌, zero, suc, nat_eq, List, [], ◌∷◌, ◌++◌, length, map, codes, position, Option, Some, None, is_some, option_and_then, Result, Ok, Err, nat_le, if◌then◌else◌}
 use Rattle.std.specs.Borrow.{Bor}
-use Rattle.std.specs.List.{ends_with, starts_with, list_any}
+use Rattle.std.specs.List.{ends_with, starts_with}
 use Rattle.std.specs.Str.{bytes_eq, is_utf8}
 use Rattle.std.specs.Cmp.Lexicographic.{pointwise}
 use Rattle.book_text.specs.Whole.{whole_value}
+use Rattle.book_text.specs.declared.memory.Memory.{Memory}
 use Rattle.book_text.specs.declared.number.NumberFault.{NumberFault}
 use Rattle.narrow_form.specs.declared.stop.Stop.{Stop}
 use Rattle.narrow_form.specs.declared.stop.Stop.TheVariants as stops
-use Rattle.narrow_form.specs.Narrow.{AuxNames, NodeEntry, NetEntry, PlaceEntry, RowEntry, header, keyed, fixed_mark}
+use Rattle.narrow_form.specs.Narrow.{AuxNames, NodeEntry, NetEntry, PlaceEntry, RowEntry, header, keyed, fixed_mark, node_at}
 
 infixl 10 ◌>>=◌
 abbrev pub ◌>>=◌ : {A B : Type 0} → Option A → (A → Option B) → Option B
@@ -18,6 +19,12 @@ o >>= f = option_and_then f o
 abbrev pub Stops : {Y : Type 0} → Stop → Option Y → Type 0
 Stops stops.Memory read = Unit {0}
 Stops stops.NotNarrow read = read ≡ None
+
+-- the answer of a public reader
+abbrev pub answered : {X : Type 0} → Result X Stop → Result (Option X) Memory
+answered (Ok x) = Ok (Some x)
+answered (Err stops.NotNarrow) = Ok None
+answered (Err stops.Memory) = Err (record {})
 
 abbrev pub Gives : {X Y : Type 0} → (X → Y) → Result X Stop → Option Y → Type 0
 Gives view (Ok x) read = read ≡ Some (view x)
@@ -139,20 +146,26 @@ names_of lines = do
   none ← ended line.1
   Some names
 
--- so many nodes, behind those before, and the lines behind them
-unfoldable pub nodes_at : ℕ → List NodeEntry → Lines → Option (List NodeEntry × Lines)
-nodes_at zero before lines = Some (before, lines)
-nodes_at (suc n) before lines = do
+-- so many items, each read behind those before it, and the lines behind them
+unfoldable pub times : {A : Type 0} → (List A → Lines → Option (A × Lines)) → ℕ → List A → Lines → Option (List A × Lines)
+times step zero before lines = Some (before, lines)
+times step (suc n) before lines = do
+  item ← step before lines
+  times step n (before ++ item.0 ∷ []) item.1
+
+-- a node whose name none before it has
+unfoldable pub next_node : List NodeEntry → Lines → Option (NodeEntry × Lines)
+next_node before lines = do
   line ← line_at lines
   node ← node_in line.0
-  if list_any (λ other. bytes_eq other.name node.name) before then None else nodes_at n (before ++ node ∷ []) line.1
+  if is_some (named before node.name) then None else Some (node, line.1)
 
 unfoldable pub nodes_of : Lines → Option (List NodeEntry)
 nodes_of lines = do
   lines ← expected (header (codes "nodes")) lines
   total ← keyed_at (codes "NumNodes") lines
   terminals ← keyed_at (codes "NumTerminals") total.1
-  nodes ← nodes_at total.0 [] terminals.1
+  nodes ← times next_node total.0 [] terminals.1
   none ← ended nodes.1
   Some nodes.0
 
@@ -162,20 +175,14 @@ pin_at nodes lines = do
   i ← pin_in nodes line.0
   Some (i, line.1)
 
-unfoldable pub net_at : List NodeEntry → Lines → Option (NetEntry × Lines)
-net_at nodes lines = do
-  line ← line_at lines
-  if is_degree line.0 then (do
-    first ← pin_at nodes line.1
+-- a degree line, and two pin lines of two different nodes
+unfoldable pub next_net : List NodeEntry → Lines → Option (NetEntry × Lines)
+next_net nodes lines = do
+  degree ← line_at lines
+  if is_degree degree.0 then (do
+    first ← pin_at nodes degree.1
     second ← pin_at nodes first.1
     if first.0 == second.0 then None else Some (record { first = first.0; second = second.0 }, second.1)) else None
-
--- so many nets, behind those before, and the lines behind them
-unfoldable pub nets_at : List NodeEntry → ℕ → List NetEntry → Lines → Option (List NetEntry × Lines)
-nets_at nodes zero before lines = Some (before, lines)
-nets_at nodes (suc n) before lines = do
-  net ← net_at nodes lines
-  nets_at nodes n (before ++ net.0 ∷ []) net.1
 
 -- the nets, whether each node that is no terminal stands in one or not
 unfoldable pub nets_of : List NodeEntry → Lines → Option (List NetEntry)
@@ -183,22 +190,26 @@ nets_of nodes lines = do
   lines ← expected (header (codes "nets")) lines
   total ← keyed_at (codes "NumNets") lines
   pins ← keyed_at (codes "NumPins") total.1
-  nets ← (if pins.0 == 2 * total.0 then nets_at nodes total.0 [] pins.1 else None)
-  none ← ended nets.1
-  Some nets.0
+  if pins.0 == 2 * total.0 then (do
+    nets ← times (λ before. next_net nodes) total.0 [] pins.1
+    none ← ended nets.1
+    Some nets.0) else None
 
--- the places of the nodes, behind those before, and the lines behind them
-unfoldable pub places_at : List NodeEntry → List PlaceEntry → Lines → Option (List PlaceEntry × Lines)
-places_at [] before lines = Some (before, lines)
-places_at (node ∷ nodes) before lines = do
+-- the place of a node, and the lines behind its line
+unfoldable pub place_at : NodeEntry → Lines → Option (PlaceEntry × Lines)
+place_at node lines = do
   line ← line_at lines
   place ← place_in node line.0
-  places_at nodes (before ++ place ∷ []) line.1
+  Some (place, line.1)
+
+-- the place of the first node that none before is the place of
+abbrev pub next_place : List NodeEntry → List PlaceEntry → Lines → Option (PlaceEntry × Lines)
+next_place nodes before lines = place_at (node_at nodes (length before)) lines
 
 unfoldable pub places_of : List NodeEntry → Lines → Option (List PlaceEntry)
 places_of nodes lines = do
   lines ← expected (header (codes "pl")) lines
-  places ← places_at nodes [] lines
+  places ← times (next_place nodes) (length nodes) [] lines
   none ← ended places.1
   Some places.0
 
@@ -212,16 +223,30 @@ subrow_at lines = do
 abbrev pub is_sound : RowEntry → Bool
 is_sound row = nat_le 1 row.height && (nat_le 1 row.width && (nat_le 1 row.spacing && (nat_le 1 row.sites && nat_le (row.x + row.sites * row.spacing) 1000000)))
 
-unfoldable pub row_of : Lines → Option RowEntry
-row_of lines = do
+-- the lines of the one row
+unfoldable pub begun : Lines → Option Lines
+begun lines = do
   lines ← expected (header (codes "scl")) lines
   lines ← expected (keyed (codes "NumRows") (codes "1")) lines
-  lines ← expected (codes "CoreRow" ∷ codes "Horizontal" ∷ []) lines
+  expected (codes "CoreRow" ∷ codes "Horizontal" ∷ []) lines
+
+-- the row's lower edge, its height, and its sites' width and spacing
+unfoldable pub sizes_at : Lines → Option ((ℕ × ℕ × ℕ × ℕ) × Lines)
+sizes_at lines = do
   y ← keyed_at (codes "Coordinate") lines
   height ← keyed_at (codes "Height") y.1
   width ← keyed_at (codes "Sitewidth") height.1
   spacing ← keyed_at (codes "Sitespacing") width.1
-  subrow ← subrow_at spacing.1
+  Some ((y.0, height.0, width.0, spacing.0), spacing.1)
+
+abbrev pub row_from : ℕ × ℕ × ℕ × ℕ → ℕ × ℕ → RowEntry
+row_from sizes subrow = record { y = sizes.0; height = sizes.1; width = sizes.2; spacing = sizes.3; x = subrow.0; sites = subrow.1 }
+
+unfoldable pub row_of : Lines → Option RowEntry
+row_of lines = do
+  lines ← begun lines
+  sizes ← sizes_at lines
+  subrow ← subrow_at sizes.1
   lines ← expected (codes "End" ∷ []) subrow.1
   none ← ended lines
-  (let row : RowEntry = record { y = y.0; height = height.0; width = width.0; spacing = spacing.0; x = subrow.0.0; sites = subrow.0.1 } in if is_sound row then Some row else None)
+  if is_sound (row_from sizes.0 subrow.0) then Some (row_from sizes.0 subrow.0) else None

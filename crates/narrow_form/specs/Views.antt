@@ -16,8 +16,11 @@ node_entry node = record { name = node.name.now; width = node.width; height = no
 abbrev pub node_entries : List Node → List narrow.NodeEntry
 node_entries nodes = map node_entry nodes
 
+abbrev pub net_entry : Net → narrow.NetEntry
+net_entry net = record { first = net.first; second = net.second }
+
 abbrev pub net_entries : List Net → List narrow.NetEntry
-net_entries nets = map (λ net. record { first = net.first; second = net.second }) nets
+net_entries nets = map net_entry nets
 
 abbrev pub place_entry : Place → narrow.PlaceEntry
 place_entry place = record { x = place.x; y = place.y }

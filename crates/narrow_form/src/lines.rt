@@ -4,7 +4,7 @@ ghost use Rattle.std.specs.Prelude.{◌≡◌, ◌≤◌, [], ◌++◌, length, 
 ghost use Rattle.book_text.specs.Lines.{words_of};
 ghost use Rattle.book_text.specs.Walk.{bytes_at};
 ghost use Rattle.narrow_form.specs.Narrow.{word_lines};
-ghost use Rattle.narrow_form.specs.Reading.{Gives, TakesLine, spelled, line_at, expected, keyed_at, ended};
+ghost use Rattle.narrow_form.specs.Reading.{Gives, TakesLine, spelled, line_at, expected, keyed_at, subrow_at, ended};
 
 use crate::stop::Stop;
 use crate::words;
@@ -87,6 +87,15 @@ impl<'a> Lines<'a> {
     {
         self.line(words)?;
         words::keyed(words, key)
+    }
+
+    /// Takes a line `SubrowOrigin : x NumSites : sites`.
+    #[tactic(auto, unfolding(crate::specs::Reading::subrow_at))]
+    pub fn subrow(&mut self, words: &mut Vec<&'a [u8]>) -> Result<(u32, u32), Stop>
+        ensures { Gives (λ subrow. (subrow, self.new)) result (subrow_at self.old) }
+    {
+        self.line(words)?;
+        words::subrow(words)
     }
 
     /// Answers that no line is left.

@@ -1,6 +1,7 @@
 //! Why a text isn't read further.
 
 ghost use Rattle.std.specs.Prelude.{◌≡◌};
+ghost use Rattle.narrow_form.specs.Reading.{answered};
 ghost use Rattle.narrow_form.specs.declared.stop.Stop.TheVariants as stops;
 
 use book_text::Memory;
@@ -28,5 +29,16 @@ impl<T: Drop> From<AllocFailed<T>> for Stop {
 
     fn from(_: AllocFailed<T>) -> Stop {
         Stop::Memory
+    }
+}
+
+/// The answer of a public reader: `None` where the text isn't in the narrow form.
+pub fn answer<T>(read: Result<T, Stop>) -> Result<Option<T>, Memory>
+    ensures { result ≡ answered read }
+{
+    match read {
+        Ok(value) => Ok(Some(value)),
+        Err(Stop::NotNarrow) => Ok(None),
+        Err(Stop::Memory) => Err(Memory),
     }
 }

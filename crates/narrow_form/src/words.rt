@@ -89,7 +89,7 @@ pub fn is_degree(words: &[&[u8]]) -> bool
 }
 
 /// The number of the first node of a name.
-fn named(nodes: &[Node<'_>], name: &[u8]) -> Option<usize>
+pub fn named(nodes: &[Node<'_>], name: &[u8]) -> Option<usize>
     ensures value { result ≡ named (node_entries nodes.now) name.now }
     ensures within { IfSome result (λ i. i < length nodes.now) }
 {
