@@ -37,12 +37,12 @@ spelled words = map (λ (w : Bor (List ℕ)). w.now) words
 abbrev pub same_words : List (List ℕ) → List (List ℕ) → Bool
 same_words = pointwise bytes_eq
 
-abbrev number_in : Result ℕ NumberFault → Option ℕ
+abbrev pub number_in : Result ℕ NumberFault → Option ℕ
 number_in (Ok n) = if nat_le n 1000000 then Some n else None
 number_in (Err fault) = None
 
 -- a whole word of at most a million
-abbrev pub number_of : List ℕ → Option ℕ
+unfoldable pub number_of : List ℕ → Option ℕ
 number_of word = number_in (whole_value word)
 
 -- the number of a line with a keyword, a colon and a number

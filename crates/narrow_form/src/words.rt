@@ -28,6 +28,7 @@ pub fn is_same(words: &[&[u8]], wanted: &[&[u8]]) -> bool
 }
 
 /// The value of a whole word of at most 1,000,000.
+#[tactic(auto, unfolding(crate::specs::Reading::number_of))]
 fn number(word: &[u8]) -> Result<u32, Stop>
     ensures { Gives (λ n. n) result (number_of word.now) }
 {
