@@ -5,3 +5,5 @@ pub mod LineLemmas
 pub mod Names
 pub mod NodeLines
 pub mod PlaceLines
+pub mod NetLines
+pub mod RowLines
