@@ -1,5 +1,5 @@
 -- A function finds what is related: from its answer, what a reader answers, and that no text has two readings.
-use Rattle.std.proofs.Common.{◌≡◌, Bool, true, false, cond, Option, Some, None, Result, Ok, Err, refl, sym, ◌∙◌}
+use Rattle.std.proofs.Common.{◌≡◌, Bool, true, false, cond, Option, Some, None, Result, Ok, Err, refl}
 use Rattle.narrow_form.specs.declared.stop.Stop.{Stop}
 use Rattle.narrow_form.specs.declared.stop.Stop.TheVariants as stops
 use Rattle.narrow_form.specs.Answers.{Answers}
@@ -31,3 +31,13 @@ then_some false o y e = absurd cc
 pub else_some : {A : Type 0} (b : Bool) (o : Option A) (y : A) → cond b None o ≡ Some y → (b ≡ false) × (o ≡ Some y)
 else_some true o y e = absurd cc
 else_some false o y e = (refl, e)
+
+pub answered-some : {A R : Type 0} (view : A → R) (read : Result A Stop) (found : Option R) (x : A) → answered read ≡ Ok (Some x) → Gives view read found → found ≡ Some (view x)
+answered-some view (Ok y) found x e given = let same : y ≡ x = cc in rw (← same) given
+answered-some view (Err stops.Memory) found x e given = absurd cc
+answered-some view (Err stops.NotNarrow) found x e given = absurd cc
+
+pub answered-none : {A R : Type 0} (view : A → R) (read : Result A Stop) (found : Option R) → answered read ≡ Ok None → Gives view read found → found ≡ None
+answered-none view (Ok y) found e given = absurd cc
+answered-none view (Err stops.Memory) found e given = absurd cc
+answered-none view (Err stops.NotNarrow) found e given = given

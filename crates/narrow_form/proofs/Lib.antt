@@ -7,3 +7,4 @@ pub mod NodeLines
 pub mod PlaceLines
 pub mod NetLines
 pub mod RowLines
+pub mod Joined

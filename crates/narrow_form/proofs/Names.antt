@@ -1,11 +1,11 @@
 -- The names that are found in an aux file are the ones that its text has by the relation.
-use Rattle.std.proofs.Common.{◌≡◌, ℕ, ◌&&◌, nat_eq, List, [], ◌∷◌, codes, Option, Some, None, refl, sym, ap, subst, ◌∙◌, IsTrue}
+use Rattle.std.proofs.Common.{◌≡◌, ℕ, ◌&&◌, nat_eq, List, [], ◌∷◌, codes, Some, refl, ap, subst, ◌∙◌, IsTrue}
 use Rattle.std.specs.List.{ends_with}
 use Rattle.std.specs.Str.{IsUtf8, is_utf8, bytes_eq}
 use Rattle.std.proofs.lemmas.Slice.Eq.{bytes_eq-Decides}
 use Rattle.std.proofs.lemmas.Str.{IsUtf8-from_is_utf8, is_utf8-from_IsUtf8}
 use Rattle.narrow_form.specs.Narrow.{AuxNames, IsAuxText, word_lines}
-use Rattle.narrow_form.specs.Reading.{◌>>=◌, name_in, files_in, names_in, Lines, line_at, ended, names_of}
+use Rattle.narrow_form.specs.Reading.{name_in, files_in, names_in, line_at, ended, names_of}
 use Rattle.narrow_form.proofs.Finding.{Finds, bind_some, then_some}
 use Rattle.narrow_form.proofs.LineLemmas.{both_true, line_at-sound, line_at-whole, ended-sound, ended-whole}
 

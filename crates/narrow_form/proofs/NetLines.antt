@@ -1,11 +1,11 @@
 -- The nets that are found in a text are the ones that it has by the relation, but for the nodes that no net joins.
-use Rattle.std.proofs.Common.{◌≡◌, ◌≢◌, ℕ, ◌<◌, ◌≤◌, ◌*◌, Bool, true, false, cond, eqb, leb, ◌&&◌, List, [], ◌∷◌, ◌++◌, length, take, codes, Option, Some, None, refl, sym, ap, subst, ◌∙◌, AllPairs, arith, inl, inr}
+use Rattle.std.proofs.Common.{◌≡◌, ◌≢◌, ℕ, ◌*◌, true, false, eqb, leb, List, [], ◌∷◌, ◌++◌, length, codes, Some, None, refl, sym, ap, subst, ◌∙◌, arith, inl, inr}
 use Rattle.std.specs.Str.{bytes_eq}
 use Rattle.std.proofs.lemmas.Bool.{leb-true, eqb-true, eqb-false, eq-eqb, ne_eqb}
-use Rattle.std.proofs.lemmas.Option.{same_Some}
+use Rattle.std.proofs.lemmas.Option.{same_Some, none-some}
 use Rattle.std.proofs.lemmas.Slice.Eq.{bytes_eq-Decides}
-use Rattle.narrow_form.specs.Narrow.{NodeEntry, NetEntry, header, keyed, IsDegreeLine, IsPinLine, AreNetLines, AreJoined, IsNetsText, IsNumber, node_at, word_lines}
-use Rattle.narrow_form.specs.Reading.{◌>>=◌, same_words, is_degree, named, pin_in, pin_at, Lines, line_at, expected, keyed_at, ended, times, next_net, nets_of}
+use Rattle.narrow_form.specs.Narrow.{NodeEntry, NetEntry, header, keyed, IsDegreeLine, IsPinLine, AreNetLines, AreJoined, IsNetsText, IsNumber, word_lines}
+use Rattle.narrow_form.specs.Reading.{is_degree, named, pin_in, pin_at, Lines, line_at, expected, keyed_at, ended, times, next_net, nets_of}
 use Rattle.narrow_form.proofs.Finding.{bind_some, then_some, else_some}
 use Rattle.narrow_form.proofs.LineLemmas.{same_words-Decides, both_true, line_at-sound, line_at-whole, expected-sound, expected-whole, keyed_at-sound, keyed_at-whole, ended-sound, ended-whole}
 use Rattle.narrow_form.proofs.NodeLines.{AreDistinct, named-sound, named-whole}
@@ -146,3 +146,16 @@ unfolding nets_of
 nets_of-whole text nodes nets distinct h =
     let twice : eqb (2 * length nets) (2 * length nets) ≡ true = eq-eqb (2 * length nets) (2 * length nets) refl in
     ap (nets_of nodes) h.told ∙ rw (expected-whole (header (codes "nets")) (keyed (codes "NumNets") h.total ∷ keyed (codes "NumPins") h.pins ∷ h.lines), keyed_at-whole (codes "NumNets") h.total (length nets) (keyed (codes "NumPins") h.pins ∷ h.lines) h.count, keyed_at-whole (codes "NumPins") h.pins (2 * length nets) h.lines h.pin_count, twice, times-whole (λ _. next_net nodes) [] h.lines nets (nets-whole nodes [] h.lines nets distinct h.each), ended-whole) refl
+
+pub nets-joined : (text : List ℕ) (nodes : List NodeEntry) (nets : List NetEntry) → nets_of nodes (word_lines text) ≡ Some nets → AreJoined nodes nets → IsNetsText text nodes nets
+nets-joined text nodes nets e joined =
+    let u = nets_of-sound text nodes nets e in
+    record { total = u.total; pins = u.pins; lines = u.lines; told = u.told; count = u.count; pin_count = u.pin_count; each = u.each; joined = joined }
+
+pub nets-unjoined : (text : List ℕ) (nodes : List NodeEntry) (nets : List NetEntry) → AreDistinct nodes → nets_of nodes (word_lines text) ≡ Some nets → (AreJoined nodes nets → ⊥) → (others : List NetEntry) → IsNetsText text nodes others → ⊥
+nets-unjoined text nodes nets distinct e unjoined others h =
+    let same : others ≡ nets = same_Some others nets (sym (nets_of-whole text nodes others distinct h) ∙ e) in
+    unjoined (subst (AreJoined nodes) same h.joined)
+
+pub nets-none : (text : List ℕ) (nodes : List NodeEntry) → AreDistinct nodes → nets_of nodes (word_lines text) ≡ None → (others : List NetEntry) → IsNetsText text nodes others → ⊥
+nets-none text nodes distinct e others h = none-some others (sym e ∙ nets_of-whole text nodes others distinct h)

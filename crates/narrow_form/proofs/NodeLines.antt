@@ -1,15 +1,15 @@
 -- The nodes that are found in a text are the ones that it has by the relation.
-use Rattle.std.proofs.Common.{◌≡◌, ◌≢◌, ℕ, ◌<◌, Bool, true, false, cond, ltb, not, List, [], ◌∷◌, ◌++◌, length, get_or, codes, Option, Some, None, is_some, refl, sym, ap, subst, ◌∙◌, append_assoc, AllPairs, arith, inl, inr}
-use Rattle.std.specs.List.{AllZip, position, position_or_len}
+use Rattle.std.proofs.Common.{◌≡◌, ◌≢◌, ℕ, ◌<◌, Bool, true, false, List, [], ◌∷◌, ◌++◌, length, get_or, codes, Some, is_some, refl, sym, ap, subst, ◌∙◌, append_assoc, AllPairs, arith, inl, inr}
+use Rattle.std.specs.List.{AllZip, position_or_len}
 use Rattle.std.specs.Str.{bytes_eq}
-use Rattle.std.proofs.lemmas.Bool.{cases_lt, lt-ltb, ltb-true, le-ltb, false_from_ne_true, false≢true}
+use Rattle.std.proofs.lemmas.Bool.{cases_lt, lt-ltb, le-ltb, false_from_ne_true, false≢true}
 use Rattle.std.proofs.lemmas.List.{append-nil, length-append, get_or_append_left}
 use Rattle.std.proofs.Math.Seq.{get_or-append_seam}
 use Rattle.std.proofs.lemmas.List.Quantifiers.{all_pairs_push, position-Some}
 use Rattle.std.proofs.lemmas.List.Sums.{position_or_len_is, fails_before_first}
 use Rattle.std.proofs.lemmas.Slice.Eq.{bytes_eq-Decides}
 use Rattle.narrow_form.specs.Narrow.{NodeEntry, header, keyed, terminal_mark, IsNodeLine, IsNodesText, IsNumber, no_node, node_at, word_lines}
-use Rattle.narrow_form.specs.Reading.{◌>>=◌, number_of, terminal_in, node_in, named, Lines, line_at, expected, keyed_at, ended, times, next_node, nodes_of}
+use Rattle.narrow_form.specs.Reading.{number_of, terminal_in, node_in, named, Lines, line_at, expected, keyed_at, ended, times, next_node, nodes_of}
 use Rattle.narrow_form.proofs.Finding.{Finds, bind_some, then_some, else_some}
 use Rattle.narrow_form.proofs.LineLemmas.{bytes_eq-refl, number-sound, number-whole, line_at-sound, line_at-whole, expected-sound, expected-whole, keyed_at-sound, keyed_at-whole, ended-sound, ended-whole}
 use Rattle.narrow_form.proofs.Times.{Reads, times-sound, times-whole}

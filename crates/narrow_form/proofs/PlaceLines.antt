@@ -1,11 +1,14 @@
 -- The places that are found in a text are the ones that it has by the relation.
-use Rattle.std.proofs.Common.{◌≡◌, ℕ, ◌+◌, suc, Bool, true, false, ◌&&◌, List, [], ◌∷◌, ◌++◌, length, get_or, codes, Option, Some, None, refl, sym, ap, subst, ◌∙◌, append_assoc, arith}
+use Rattle.std.proofs.Common.{◌≡◌, ℕ, suc, ◌&&◌, List, [], ◌∷◌, ◌++◌, length, get_or, codes, Option, Some, refl, sym, ap, subst, ◌∙◌, append_assoc, arith}
 use Rattle.std.specs.Str.{bytes_eq}
 use Rattle.std.proofs.lemmas.List.{length-append}
+use Rattle.std.proofs.Math.ListN.{get_or-map}
 use Rattle.std.proofs.Math.Seq.{get_or-append_seam}
 use Rattle.std.proofs.lemmas.Slice.Eq.{bytes_eq-Decides}
+use Rattle.narrow_form.specs.declared.records.Node.{Node}
+use Rattle.narrow_form.specs.Views.{node_entry, node_entries}
 use Rattle.narrow_form.specs.Narrow.{NodeEntry, PlaceEntry, header, fixed_mark, IsPlaceLine, ArePlaceLines, IsPlText, no_node, node_at, word_lines}
-use Rattle.narrow_form.specs.Reading.{◌>>=◌, same_words, number_of, place_in, Lines, line_at, expected, ended, times, place_at, next_place, places_of}
+use Rattle.narrow_form.specs.Reading.{same_words, number_of, place_in, Lines, line_at, expected, ended, times, place_at, next_place, places_of}
 use Rattle.narrow_form.proofs.Finding.{Finds, bind_some, then_some}
 use Rattle.narrow_form.proofs.LineLemmas.{same_words-Decides, same_words-refl, bytes_eq-refl, both_true, number-sound, number-whole, line_at-sound, line_at-whole, expected-sound, expected-whole, ended-sound, ended-whole}
 use Rattle.narrow_form.proofs.Times.{Reads, times-sound, times-whole}
@@ -93,3 +96,12 @@ places_of-whole text nodes places h =
 
 pub places_found : (text : List ℕ) (nodes : List NodeEntry) → Finds (IsPlText text nodes) (places_of nodes (word_lines text))
 places_found text nodes = record { sound = places_of-sound text nodes; whole = places_of-whole text nodes }
+
+-- ---- the code's loop
+
+-- what is read with the node of the loop's turn is read for the next place
+pub in_turn : (P : Option (PlaceEntry × Lines) → Type 0) (nodes : List Node) (i : ℕ) (before : List PlaceEntry) (lines : Lines) (d : Node)
+    → P (place_at (node_entry (get_or nodes i d)) lines) → node_entry d ≡ no_node → length before ≡ i → P (next_place (node_entries nodes) before lines)
+in_turn P nodes i before lines d read none even =
+    let this : node_at (node_entries nodes) (length before) ≡ node_entry (get_or nodes i d) = rw (even, ← none) (get_or-map node_entry nodes i d) in
+    subst (λ (n : NodeEntry). P (place_at n lines)) (sym this) read

@@ -1,8 +1,8 @@
 -- The row that is found in a text is the one that it has by the relation.
-use Rattle.std.proofs.Common.{◌≡◌, ℕ, ◌≤◌, ◌+◌, ◌*◌, Bool, true, false, leb, ◌&&◌, List, [], ◌∷◌, codes, Option, Some, None, refl, sym, ap, subst, ◌∙◌}
+use Rattle.std.proofs.Common.{◌≡◌, ℕ, ◌≤◌, ◌+◌, ◌*◌, true, leb, ◌&&◌, List, [], ◌∷◌, codes, Some, refl, ap, subst, ◌∙◌}
 use Rattle.std.proofs.lemmas.Bool.{leb-true, le-leb}
 use Rattle.narrow_form.specs.Narrow.{RowEntry, header, keyed, IsSclText, IsNumber, word_lines}
-use Rattle.narrow_form.specs.Reading.{◌>>=◌, same_words, number_of, subrow_in, subrow_at, Lines, line_at, expected, keyed_at, ended, begun, sizes_at, row_from, is_sound, row_of}
+use Rattle.narrow_form.specs.Reading.{same_words, number_of, subrow_in, subrow_at, Lines, line_at, expected, keyed_at, ended, begun, sizes_at, row_from, is_sound, row_of}
 use Rattle.narrow_form.proofs.Finding.{Finds, bind_some, then_some}
 use Rattle.narrow_form.proofs.LineLemmas.{same_words-Decides, both_true, number-sound, number-whole, line_at-sound, line_at-whole, expected-sound, expected-whole, keyed_at-sound, keyed_at-whole, ended-sound, ended-whole}
 
@@ -127,10 +127,24 @@ row_of-sound text row e =
     let sound = Sound-from_is_sound made g.0 in
     subst (λ (r : RowEntry). IsSclText text r) same
     (record {
-      y = told.y; height = told.height; width = told.width; spacing = told.spacing; x = many.2.x; sites = many.2.sites;
+      y = told.y;
+      height = told.height;
+      width = told.width;
+      spacing = told.spacing;
+      x = many.2.x;
+      sites = many.2.sites;
       told = cc (here, told.told, many.1, many.2.told, closed, over);
-      at_y = told.at_y; high = told.high; wide = told.wide; apart = told.apart; at_x = many.2.at_x; many = many.2.many;
-      some_height = sound.height; some_width = sound.width; some_spacing = sound.spacing; some_sites = sound.sites; within = sound.within;
+      at_y = told.at_y;
+      high = told.high;
+      wide = told.wide;
+      apart = told.apart;
+      at_x = many.2.at_x;
+      many = many.2.many;
+      some_height = sound.height;
+      some_width = sound.width;
+      some_spacing = sound.spacing;
+      some_sites = sound.sites;
+      within = sound.within;
     })
 
 row_of-whole : (text : List ℕ) (row : RowEntry) → IsSclText text row → row_of (word_lines text) ≡ Some row
@@ -141,11 +155,21 @@ row_of-whole text row h =
     let four = keyed (codes "Sitespacing") h.spacing ∷ subrow ∷ closed ∷ [] in
     let three = keyed (codes "Sitewidth") h.width ∷ four in
     let two = keyed (codes "Height") h.height ∷ three in
-    ap row_of h.told ∙ rw (begun-whole (keyed (codes "Coordinate") h.y ∷ two),
-        keyed_at-whole (codes "Coordinate") h.y row.y two h.at_y, keyed_at-whole (codes "Height") h.height row.height three h.high,
-        keyed_at-whole (codes "Sitewidth") h.width row.width four h.wide, keyed_at-whole (codes "Sitespacing") h.spacing row.spacing (subrow ∷ closed ∷ []) h.apart,
-        subrow_at-whole h.x h.sites row.x row.sites (closed ∷ []) h.at_x h.many, expected-whole closed [], ended-whole,
-        le-leb 1 row.height h.some_height, le-leb 1 row.width h.some_width, le-leb 1 row.spacing h.some_spacing, le-leb 1 row.sites h.some_sites, le-leb (row.x + row.sites * row.spacing) 1000000 h.within) refl
+    ap row_of h.told ∙ rw (
+      begun-whole (keyed (codes "Coordinate") h.y ∷ two),
+      keyed_at-whole (codes "Coordinate") h.y row.y two h.at_y,
+      keyed_at-whole (codes "Height") h.height row.height three h.high,
+      keyed_at-whole (codes "Sitewidth") h.width row.width four h.wide,
+      keyed_at-whole (codes "Sitespacing") h.spacing row.spacing (subrow ∷ closed ∷ []) h.apart,
+      subrow_at-whole h.x h.sites row.x row.sites (closed ∷ []) h.at_x h.many,
+      expected-whole closed [],
+      ended-whole,
+      le-leb 1 row.height h.some_height,
+      le-leb 1 row.width h.some_width,
+      le-leb 1 row.spacing h.some_spacing,
+      le-leb 1 row.sites h.some_sites,
+      le-leb (row.x + row.sites * row.spacing) 1000000 h.within,
+    ) refl
 
 pub row_found : (text : List ℕ) → Finds (IsSclText text) (row_of (word_lines text))
 row_found text = record { sound = row_of-sound text; whole = row_of-whole text }

@@ -1,7 +1,7 @@
 -- Tests of the code's words and nodes, seen as what they spell.
-use Rattle.std.proofs.Common.{◌≡◌, ℕ, Bool, not, ◌||◌, cond, ltb, List, [], ◌∷◌, map, length, Option, Some, None, suc, refl, ap, sym}
+use Rattle.std.proofs.Common.{◌≡◌, Bool, not, ◌||◌, List, [], ◌∷◌, map, refl, ap}
 use Rattle.std.proofs.lemmas.List.{length-map}
-use Rattle.std.specs.List.{list_any, position, position_or_len, prefix_len}
+use Rattle.std.specs.List.{list_any, position, prefix_len}
 
 prefix_len-map : {A B : Type 0} (p : B → Bool) (f : A → B) (xs : List A) → prefix_len p (map f xs) ≡ prefix_len (λ x. p (f x)) xs
 prefix_len-map p f [] = refl

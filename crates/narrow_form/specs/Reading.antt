@@ -1,5 +1,5 @@
 -- The narrow form read from left to right: what lines of words give, or nothing where they aren't in the form.
-use Rattle.std.specs.Prelude.{◌≡◌, ℕ, ◌+◌, ◌*◌, ◌<◌, ◌≤◌, Bool, true, false, ◌&&◌, ◌==◌, zero, suc, nat_eq, List, [], ◌∷◌, ◌++◌, length, map, codes, position, Option, Some, None, is_some, option_and_then, Result, Ok, Err, nat_le, if◌then◌else◌}
+use Rattle.std.specs.Prelude.{◌≡◌, ℕ, ◌+◌, ◌*◌, Bool, true, false, ◌&&◌, ◌==◌, zero, suc, nat_eq, List, [], ◌∷◌, ◌++◌, length, map, codes, position, Option, Some, None, is_some, option_and_then, Result, Ok, Err, nat_le, if◌then◌else◌}
 use Rattle.std.specs.Borrow.{Bor}
 use Rattle.std.specs.List.{ends_with, starts_with}
 use Rattle.std.specs.Str.{bytes_eq, is_utf8}

@@ -1,5 +1,5 @@
 -- What the readers answer, without where it lies in memory.
-use Rattle.std.specs.Prelude.{ℕ, List, map}
+use Rattle.std.specs.Prelude.{List, map}
 use Rattle.narrow_form.specs.declared.records.AuxNames.{AuxNames}
 use Rattle.narrow_form.specs.declared.records.Node.{Node}
 use Rattle.narrow_form.specs.declared.records.Net.{Net}

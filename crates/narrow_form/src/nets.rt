@@ -118,6 +118,5 @@ fn are_joined(nodes: &[Node<'_>], nets: &[Net]) -> bool
 fn is_joined(number: usize, nets: &[Net]) -> bool
     ensures { IsTrue result ↔ Any (IsEnd number) (net_entries nets.now) }
 {
-    nets.iter()
-        .any(|net| net.first as usize == number || net.second as usize == number)
+    nets.iter().any(|net| net.first as usize == number || net.second as usize == number)
 }

@@ -58,10 +58,7 @@ fn begin<'a>(lines: &mut Lines<'a>, words: &mut Vec<&'a [u8]>) -> Result<(), Sto
 
 /// Takes the row's lower edge, its height, and its sites' width and spacing.
 #[tactic(auto, unfolding(crate::specs::Reading::sizes_at))]
-fn sizes<'a>(
-    lines: &mut Lines<'a>,
-    words: &mut Vec<&'a [u8]>,
-) -> Result<(u32, u32, u32, u32), Stop>
+fn sizes<'a>(lines: &mut Lines<'a>, words: &mut Vec<&'a [u8]>) -> Result<(u32, u32, u32, u32), Stop>
     ensures { Gives (λ sizes. (sizes, lines.new)) result (sizes_at lines.old) }
 {
     let y = lines.keyed(words, b"Coordinate")?;

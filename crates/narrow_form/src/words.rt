@@ -149,8 +149,7 @@ pub fn subrow(words: &[&[u8]]) -> Result<(u32, u32), Stop>
     match words {
         [origin, colon, x, many, other_colon, sites]
             if is_same(&[origin, colon], &[b"SubrowOrigin", b":"])
-                && is_same(&[many, other_colon], &[b"NumSites", b":"]) =>
-        {
+                && is_same(&[many, other_colon], &[b"NumSites", b":"]) => {
             let x = number(x)?;
             let sites = number(sites)?;
             Ok((x, sites))

@@ -2,7 +2,7 @@ use Rattle.std.proofs.Common.{◌≡◌, [], ◌∷◌, ◌++◌}
 use Rattle.std.proofs.lemmas.Result.{err_from_is_err_and}
 use Rattle.std.proofs.lemmas.List.{map_push}
 use Rattle.narrow_form.specs.Views.{node_entry, node_entries}
-use Rattle.narrow_form.specs.Reading.{times, next_node}
+use Rattle.narrow_form.specs.Reading.{next_node}
 use Rattle.narrow_form.proofs.Times.{goes_on, stops_at, is_done}
 use Rattle.narrow_form.proofs.nodes.take_nodes.Goals as goal
 
