@@ -3,3 +3,4 @@ pub mod Means
 pub mod Extremal
 pub mod Exact
 pub mod Sides
+pub mod Narrow

@@ -12,6 +12,7 @@
 #![tactic(auto)]
 
 mod laws;
+mod mean;
 mod plain;
 mod points;
 mod side;

@@ -1,0 +1,9 @@
+pub mod Division
+pub mod Pulls
+pub mod SideMeans
+pub mod Climbing
+pub mod Extremes
+pub mod Maximum
+pub mod Signed
+pub mod Enclosing
+pub mod Fits
