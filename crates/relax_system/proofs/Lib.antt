@@ -7,3 +7,5 @@ pub mod Maximum
 pub mod Signed
 pub mod Enclosing
 pub mod Fits
+pub mod Sided
+pub mod Residuals

@@ -11,6 +11,7 @@
 //! each is the one fixed point of its kind, and that every exact solution lies between them.
 #![tactic(auto)]
 
+mod chains;
 mod laws;
 mod mean;
 mod plain;
@@ -20,7 +21,7 @@ mod system;
 mod valid;
 mod values;
 
-pub use laws::{enclosure, greatest_vector, least_vector};
+pub use laws::{enclosure, greatest_vector, least_vector, residuals_enclose};
 pub use plain::{greatest_plain, least_plain};
 pub use points::{Near, NearList, Point, Points};
 pub use side::Side;
