@@ -10,11 +10,8 @@ use Rattle.relax_system.specs.declared.points.Point.{Point}
 use Rattle.relax_system.specs.System.{total_weight, point_at, no_point, IsValid}
 use Rattle.relax_system.specs.Means.{InBoxes, pull}
 use Rattle.relax_system.specs.Sides.{Before, AllBefore, mean_of, start_of, starts_of, IsQuiet, IsExtremal}
+use Rattle.relax_system.specs.Way.{IsOnWay, room}
 use Rattle.relax_system.proofs.SideMeans.{Before_refl, Before_trans, mean-low, mean-high, mean-mono}
-
-pub record IsClimbing (side : Side) (points : List Point) (v : List ℕ) : Type 0 where
-  pub in_boxes : InBoxes points v
-  pub first : (u : List ℕ) → InBoxes points u → IsQuiet side points u → AllBefore side v u
 
 -- what holds of the entry that was set, and of each other one
 pub at_set : (P : ℕ → ℕ → Type 0) (v : List ℕ) (i x : ℕ) → i < length v → P i x → ((k : ℕ) → k ≢ i → P k (slice_index v k)) → (k : ℕ) → P k (slice_index (set v i x) k)
@@ -31,8 +28,8 @@ InBoxes-set points v i x h there low high =
     }
 
 -- to put one entry at its mean keeps the way
-pub IsClimbing-set : (side : Side) (points : List Point) (v : List ℕ) (i : ℕ) → IsValid points → IsClimbing side points v → i < length points → IsClimbing side points (set v i (mean_of side points i v))
-IsClimbing-set side points v i valid h there = record {
+pub IsOnWay-set : (side : Side) (points : List Point) (v : List ℕ) (i : ℕ) → IsValid points → IsOnWay side points v → i < length points → IsOnWay side points (set v i (mean_of side points i v))
+IsOnWay-set side points v i valid h there = record {
   in_boxes = InBoxes-set points v i _ h.in_boxes there (mean-low side points i v valid there h.in_boxes) (mean-high side points i v valid there h.in_boxes);
   first = λ u boxes quiet. at_set (λ k y. Before side y (slice_index u k)) v i _ (omega (arith, h.in_boxes.all))
       (Before_trans side _ _ _ (mean-mono side points i v u valid there (h.first u boxes quiet)) (quiet i there))
@@ -59,19 +56,14 @@ InBoxes_start side points valid = record {
 }
 
 -- the way's beginning
-pub IsClimbing_start : (side : Side) (points : List Point) → IsValid points → IsClimbing side points (starts_of side points)
-IsClimbing_start side points valid = record {
+pub IsOnWay_start : (side : Side) (points : List Point) → IsValid points → IsOnWay side points (starts_of side points)
+IsOnWay_start side points valid = record {
   in_boxes = InBoxes_start side points valid;
   first = λ u boxes _ i. ⊎_elim
       (λ there. rw (get_or-map (start_of side) points i no_point 0 there) (start_before side (point_at points i) _ (boxes.low i there) (boxes.high i there)))
       (λ past. rw (get_or_past (starts_of side points) i 0 (omega (arith, length-map points (start_of side))), get_or_past u i 0 (omega (arith, boxes.all))) (Before_refl side 0))
       (cases_lt i (length points))
 }
-
--- how far the entries are from the far ends of their boxes, all together
-abbrev pub room : Side → List Point → List ℕ → ℕ
-room Floor points v = sum_by (λ p. p.hi) points - sum v
-room Ceil points v = sum v
 
 sum-high : (points : List Point) (v : List ℕ) → length v ≡ length points → ((i : ℕ) → i < length points → slice_index v i ≤ (point_at points i).hi) → sum v ≤ sum_by (λ p. p.hi) points
 sum-high [] [] e h = omega arith

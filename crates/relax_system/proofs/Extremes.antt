@@ -9,8 +9,9 @@ use Rattle.relax_system.specs.declared.points.Point.{Point}
 use Rattle.relax_system.specs.System.{point_at, IsValid}
 use Rattle.relax_system.specs.Means.{InBoxes}
 use Rattle.relax_system.specs.Sides.{Before, AllBefore, mean_of, starts_of, IsQuiet, IsExtremal}
+use Rattle.relax_system.specs.Way.{IsOnWay, room}
 use Rattle.relax_system.proofs.SideMeans.{Before_refl, Before_trans, Before_antisym, mean-low, mean-high, mean-mono}
-use Rattle.relax_system.proofs.Climbing.{IsClimbing, IsClimbing-set, IsClimbing_start, InBoxes-set, at_set, room, room-set}
+use Rattle.relax_system.proofs.Climbing.{IsOnWay-set, IsOnWay_start, InBoxes-set, at_set, room-set}
 
 pub extremal_one : (side : Side) (points : List Point) (u v : List ℕ) → IsExtremal side points u → IsExtremal side points v → u ≡ v
 extremal_one side points u v h k =
@@ -55,14 +56,14 @@ quiet_or_past side points v (suc n) h = ⊎_elim
     (λ past. inr past)
     (quiet_or_past side points v n (omega arith))
 
-climb : (side : Side) (points : List Point) (fuel : ℕ) (v : List ℕ) → IsValid points → IsClimbing side points v → room side points v < fuel → (w : List ℕ) × IsExtremal side points w
+climb : (side : Side) (points : List Point) (fuel : ℕ) (v : List ℕ) → IsValid points → IsOnWay side points v → room side points v < fuel → (w : List ℕ) × IsExtremal side points w
 climb side points zero v valid h k = absurd (omega arith)
 climb side points (suc fuel) v valid h k = ⊎_elim
     (λ quiet. (v, record { in_boxes = h.in_boxes; quiet = quiet; first = h.first }))
-    (λ past. let next = IsClimbing-set side points v past.0 valid h past.1.there in
+    (λ past. let next = IsOnWay-set side points v past.0 valid h past.1.there in
       climb side points fuel (set v past.0 (mean_of side points past.0 v)) valid next
       (omega (arith, k, room-set side points v past.0 (mean_of side points past.0 v) next.in_boxes (omega (arith, h.in_boxes.all, past.1.there)) past.1.further past.1.other)))
     (quiet_or_past side points v (length points) (omega arith))
 
 pub extremal_there : (side : Side) (points : List Point) → IsValid points → (w : List ℕ) × IsExtremal side points w
-extremal_there side points valid = climb side points (suc (room side points (starts_of side points))) (starts_of side points) valid (IsClimbing_start side points valid) (omega arith)
+extremal_there side points valid = climb side points (suc (room side points (starts_of side points))) (starts_of side points) valid (IsOnWay_start side points valid) (omega arith)

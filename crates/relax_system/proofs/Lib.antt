@@ -9,3 +9,6 @@ pub mod Enclosing
 pub mod Fits
 pub mod Sided
 pub mod Residuals
+pub mod Dots
+pub mod Rows
+pub mod Sweeping

@@ -4,3 +4,5 @@ pub mod Extremal
 pub mod Exact
 pub mod Sides
 pub mod Narrow
+pub mod Flat
+pub mod Way

@@ -12,6 +12,7 @@
 #![tactic(auto)]
 
 mod chains;
+mod flat;
 mod laws;
 mod mean;
 mod plain;
