@@ -1,5 +1,5 @@
 -- Vectors on the way to the extremal one: within the boxes, and before each quiet vector of the boxes.
-use Rattle.std.proofs.Common.{◌≡◌, ◌≢◌, ℕ, ◌+◌, ◌-◌, ◌<◌, ◌≤◌, List, [], ◌∷◌, length, map, suc, get_or, set, refl, ⊎_elim, arith}
+use Rattle.std.proofs.Common.{◌≡◌, ◌≢◌, ℕ, ◌<◌, ◌≤◌, List, [], ◌∷◌, length, suc, set, ⊎_elim, arith}
 use Rattle.std.specs.List.{sum, sum_by, slice_index}
 use Rattle.std.proofs.lemmas.List.{length-set, length-map, get_or-set_same, get_or-set_other, get_or-map, get_or_past}
 use Rattle.std.proofs.lemmas.List.Sums.{sum_by-cons, sum_by-set}
@@ -7,9 +7,9 @@ use Rattle.std.proofs.lemmas.Bool.{cases_eq, cases_lt}
 use Rattle.relax_system.specs.declared.side.Side.{Side}
 use Rattle.relax_system.specs.declared.side.Side.TheVariants.{Floor, Ceil}
 use Rattle.relax_system.specs.declared.points.Point.{Point}
-use Rattle.relax_system.specs.System.{total_weight, point_at, no_point, IsValid}
-use Rattle.relax_system.specs.Means.{InBoxes, pull}
-use Rattle.relax_system.specs.Sides.{Before, AllBefore, mean_of, start_of, starts_of, IsQuiet, IsExtremal}
+use Rattle.relax_system.specs.System.{point_at, no_point, IsValid}
+use Rattle.relax_system.specs.Means.{InBoxes}
+use Rattle.relax_system.specs.Sides.{Before, mean_of, start_of, starts_of}
 use Rattle.relax_system.specs.Way.{IsOnWay, room}
 use Rattle.relax_system.proofs.SideMeans.{Before_refl, Before_trans, mean-low, mean-high, mean-mono}
 
@@ -24,7 +24,7 @@ InBoxes-set points v i x h there low high =
     record {
       all = omega (arith, length-set v i x, h.all);
       low = λ k in'. at_set (λ k y. k < length points → (point_at points k).lo ≤ y) v i x inside (λ _. low) (λ k _ in'. h.low k in') k in';
-      high = λ k in'. at_set (λ k y. k < length points → y ≤ (point_at points k).hi) v i x inside (λ _. high) (λ k _ in'. h.high k in') k in'
+      high = λ k in'. at_set (λ k y. k < length points → y ≤ (point_at points k).hi) v i x inside (λ _. high) (λ k _ in'. h.high k in') k in';
     }
 
 -- to put one entry at its mean keeps the way
@@ -33,7 +33,7 @@ IsOnWay-set side points v i valid h there = record {
   in_boxes = InBoxes-set points v i _ h.in_boxes there (mean-low side points i v valid there h.in_boxes) (mean-high side points i v valid there h.in_boxes);
   first = λ u boxes quiet. at_set (λ k y. Before side y (slice_index u k)) v i _ (omega (arith, h.in_boxes.all))
       (Before_trans side _ _ _ (mean-mono side points i v u valid there (h.first u boxes quiet)) (quiet i there))
-      (λ k _. h.first u boxes quiet k)
+      (λ k _. h.first u boxes quiet k);
 }
 
 start-low : (side : Side) (p : Point) → p.lo ≤ p.hi → p.lo ≤ start_of side p
@@ -52,7 +52,7 @@ InBoxes_start : (side : Side) (points : List Point) → IsValid points → InBox
 InBoxes_start side points valid = record {
   all = length-map points (start_of side);
   low = λ i there. rw (get_or-map (start_of side) points i no_point 0 there) (start-low side _ (valid.each i there).ordered);
-  high = λ i there. rw (get_or-map (start_of side) points i no_point 0 there) (start-high side _ (valid.each i there).ordered)
+  high = λ i there. rw (get_or-map (start_of side) points i no_point 0 there) (start-high side _ (valid.each i there).ordered);
 }
 
 -- the way's beginning
@@ -62,7 +62,7 @@ IsOnWay_start side points valid = record {
   first = λ u boxes _ i. ⊎_elim
       (λ there. rw (get_or-map (start_of side) points i no_point 0 there) (start_before side (point_at points i) _ (boxes.low i there) (boxes.high i there)))
       (λ past. rw (get_or_past (starts_of side points) i 0 (omega (arith, length-map points (start_of side))), get_or_past u i 0 (omega (arith, boxes.all))) (Before_refl side 0))
-      (cases_lt i (length points))
+      (cases_lt i (length points));
 }
 
 sum-high : (points : List Point) (v : List ℕ) → length v ≡ length points → ((i : ℕ) → i < length points → slice_index v i ≤ (point_at points i).hi) → sum v ≤ sum_by (λ p. p.hi) points

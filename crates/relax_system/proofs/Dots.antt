@@ -1,5 +1,5 @@
 -- Sums of products over two lists: one term more, and all terms.
-use Rattle.std.proofs.Common.{◌≡◌, ℕ, ◌+◌, ◌*◌, ◌<◌, ◌≤◌, List, [], ◌∷◌, length, map, take, min, get_or, refl, sym, ap, ◌∙◌, arith}
+use Rattle.std.proofs.Common.{◌≡◌, ℕ, ◌+◌, ◌*◌, ◌<◌, ◌≤◌, List, [], ◌∷◌, length, map, take, min, get_or, refl, ap, arith}
 use Rattle.std.specs.List.{sum_by, slice_index, zip}
 use Rattle.std.proofs.lemmas.List.{take_all}
 use Rattle.std.proofs.lemmas.List.Sums.{sum_by-cons, sum_by_more, sum_by_more_le}
@@ -22,7 +22,7 @@ next_term k numbers weights v number weight h h' e e' =
     let term : weight * slice_index v number ≡ (get_or (zip numbers weights) k (0, 0)).1 * slice_index v (get_or (zip numbers weights) k (0, 0)).0 = rw (e, e', get_or-zip numbers weights k (0, 0) h h') refl in
     record {
       more = rw term (sum_by_more (λ (e : ℕ × ℕ). e.1 * slice_index v e.0) (zip numbers weights) k (0, 0) inside);
-      within = rw term (sum_by_more_le (λ (e : ℕ × ℕ). e.1 * slice_index v e.0) (zip numbers weights) k (0, 0) inside)
+      within = rw term (sum_by_more_le (λ (e : ℕ × ℕ). e.1 * slice_index v e.0) (zip numbers weights) k (0, 0) inside);
     }
 
 pub dot_all : (k : ℕ) (numbers weights v : List ℕ) → k ≡ min (length numbers) (length weights) → dot_so_far k numbers weights v ≡ dot numbers weights v
@@ -33,4 +33,4 @@ pub dot-near : (near : List Near) (v : List ℕ) → dot (map (λ (n : Near). n.
 dot-near [] v = refl
 dot-near (n ∷ near) v =
     rw (sum_by-cons (λ (e : ℕ × ℕ). e.1 * slice_index v e.0) (n.point, n.weight) (zip (map (λ (n : Near). n.point) near) (map (λ (n : Near). n.weight) near)), sum_by-cons (λ (n : Near). n.weight * slice_index v n.point) n near)
-      (ap (λ x. n.weight * slice_index v n.point + x) (dot-near near v))
+    (ap (λ x. n.weight * slice_index v n.point + x) (dot-near near v))

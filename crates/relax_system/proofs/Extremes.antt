@@ -1,12 +1,12 @@
 -- The extremal vector of a side: there is exactly one, and it is fixed.
-use Rattle.std.proofs.Common.{◌≡◌, ◌≢◌, ℕ, ◌+◌, ◌-◌, ◌<◌, ◌≤◌, ◌⊎◌, inl, inr, List, length, zero, suc, get_or, set, refl, sym, ⊎_elim, arith}
+use Rattle.std.proofs.Common.{◌≡◌, ◌≢◌, ℕ, ◌<◌, ◌≤◌, ◌⊎◌, inl, inr, List, length, zero, suc, set, ⊎_elim, arith}
 use Rattle.std.specs.List.{slice_index}
-use Rattle.std.proofs.lemmas.List.{length-set, ext_get_or, get_or-set_same, get_or-set_other}
+use Rattle.std.proofs.lemmas.List.{ext_get_or, get_or-set_same}
 use Rattle.std.proofs.lemmas.Bool.{cases_eq, cases_lt}
 use Rattle.relax_system.specs.declared.side.Side.{Side}
 use Rattle.relax_system.specs.declared.side.Side.TheVariants.{Floor, Ceil}
 use Rattle.relax_system.specs.declared.points.Point.{Point}
-use Rattle.relax_system.specs.System.{point_at, IsValid}
+use Rattle.relax_system.specs.System.{IsValid}
 use Rattle.relax_system.specs.Means.{InBoxes}
 use Rattle.relax_system.specs.Sides.{Before, AllBefore, mean_of, starts_of, IsQuiet, IsExtremal}
 use Rattle.relax_system.specs.Way.{IsOnWay, room}
@@ -23,8 +23,8 @@ relaxed-quiet side points v i valid boxes quiet there =
     let m : ℕ = mean_of side points i v in
     let back : AllBefore side (set v i m) v = at_set (λ k y. Before side y (slice_index v k)) v i m (omega (arith, boxes.all)) (quiet i there) (λ k _. Before_refl side (slice_index v k)) in
     at_set (λ k y. k < length points → Before side (mean_of side points k (set v i m)) y) v i m (omega (arith, boxes.all))
-      (λ _. mean-mono side points i (set v i m) v valid there back)
-      (λ k _ in'. Before_trans side _ _ _ (mean-mono side points k (set v i m) v valid in' back) (quiet k in'))
+    (λ _. mean-mono side points i (set v i m) v valid there back)
+    (λ k _ in'. Before_trans side _ _ _ (mean-mono side points k (set v i m) v valid in' back) (quiet k in'))
 
 -- each entry of the extremal vector is its mean
 pub extremal_fixed : (side : Side) (points : List Point) (v : List ℕ) → IsValid points → IsExtremal side points v → (i : ℕ) → i < length points → slice_index v i ≡ mean_of side points i v
@@ -50,9 +50,9 @@ quiet_or_past : (side : Side) (points : List Point) (v : List ℕ) (n : ℕ) →
 quiet_or_past side points v zero h = inl (λ i in'. absurd (omega arith))
 quiet_or_past side points v (suc n) h = ⊎_elim
     (λ quiet. ⊎_elim
-      (λ here. inl (λ i in'. ⊎_elim (λ same. rw same here) (λ other. quiet i (omega arith)) (cases_eq i n)))
-      (λ past. inr (n, record { there = omega arith; further = past.0; other = past.1 }))
-      (cases_mean side (slice_index v n) (mean_of side points n v)))
+    (λ here. inl (λ i in'. ⊎_elim (λ same. rw same here) (λ other. quiet i (omega arith)) (cases_eq i n)))
+    (λ past. inr (n, record { there = omega arith; further = past.0; other = past.1 }))
+    (cases_mean side (slice_index v n) (mean_of side points n v)))
     (λ past. inr past)
     (quiet_or_past side points v n (omega arith))
 
@@ -61,8 +61,8 @@ climb side points zero v valid h k = absurd (omega arith)
 climb side points (suc fuel) v valid h k = ⊎_elim
     (λ quiet. (v, record { in_boxes = h.in_boxes; quiet = quiet; first = h.first }))
     (λ past. let next = IsOnWay-set side points v past.0 valid h past.1.there in
-      climb side points fuel (set v past.0 (mean_of side points past.0 v)) valid next
-      (omega (arith, k, room-set side points v past.0 (mean_of side points past.0 v) next.in_boxes (omega (arith, h.in_boxes.all, past.1.there)) past.1.further past.1.other)))
+    climb side points fuel (set v past.0 (mean_of side points past.0 v)) valid next
+    (omega (arith, k, room-set side points v past.0 (mean_of side points past.0 v) next.in_boxes (omega (arith, h.in_boxes.all, past.1.there)) past.1.further past.1.other)))
     (quiet_or_past side points v (length points) (omega arith))
 
 pub extremal_there : (side : Side) (points : List Point) → IsValid points → (w : List ℕ) × IsExtremal side points w

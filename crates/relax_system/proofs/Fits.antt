@@ -1,7 +1,6 @@
 -- The sums of a mean fit their types.
-use Rattle.std.proofs.Common.{◌≡◌, ℕ, ◌+◌, ◌-◌, ◌*◌, ◌^◌, ◌<◌, ◌≤◌, List, length, min, refl, ⊎_elim, arith}
+use Rattle.std.proofs.Common.{◌≡◌, ℕ, ◌*◌, ◌^◌, ◌<◌, ◌≤◌, List, length, min, refl, ⊎_elim, arith}
 use Rattle.std.proofs.Math.Nat.{mul-le-mul_left, mul-le-mul_right}
-use Rattle.std.proofs.lemmas.Nat.{mul-le}
 use Rattle.std.proofs.lemmas.Bool.{cases_lt}
 use Rattle.relax_system.specs.declared.side.Side.{Side}
 use Rattle.relax_system.specs.declared.side.Side.TheVariants.{Floor, Ceil}
@@ -16,9 +15,9 @@ use Rattle.relax_system.proofs.Pulls.{pull-high}
 pub below_cut : (m w x : ℕ) → min w m * x < m → w * x < m
 below_cut m w x h = ⊎_elim
     (λ (cut : m < w). ⊎_elim
-      (λ (some : 0 < x). absurd (omega (arith, mul-le-mul_left (min w m) some)))
-      (λ (none : x ≤ 0). let zero : x ≡ 0 = omega arith in rw zero (omega arith))
-      (cases_lt 0 x))
+    (λ (some : 0 < x). absurd (omega (arith, mul-le-mul_left (min w m) some)))
+    (λ (none : x ≤ 0). let zero : x ≡ 0 = omega arith in rw zero (omega arith))
+    (cases_lt 0 x))
     (λ (all : w ≤ m). let same : min w m ≡ w = omega arith in rw same at h)
     (cases_lt m w)
 

@@ -1,8 +1,7 @@
 -- The maximum principle along a chain, over functions to numbers.
-use Rattle.std.proofs.Common.{◌≡◌, ℕ, ◌+◌, ◌-◌, ◌*◌, ◌<◌, ◌≤◌, List, [], ◌∷◌, length, map, zero, suc, nat_le, IsTrue, refl, sym, ap, ◌∙◌, subst, ⊎_elim, arith}
+use Rattle.std.proofs.Common.{◌≡◌, ℕ, ◌+◌, ◌-◌, ◌*◌, ◌<◌, ◌≤◌, List, [], ◌∷◌, length, map, zero, suc, nat_le, IsTrue, sym, ap, ◌∙◌, subst, ⊎_elim, arith}
 use Rattle.std.specs.List.{sum_by, All, AllByRecursion, Contains}
 use Rattle.std.proofs.Math.Nat.{add-mul, mul-le-mul_left, mul-le-mul_right}
-use Rattle.std.proofs.lemmas.Nat.{mul-le}
 use Rattle.std.proofs.lemmas.List.{get_or-map}
 use Rattle.std.proofs.lemmas.List.Sums.{sum_by-cons}
 use Rattle.std.proofs.lemmas.List.Elements.{All-weaker, All-map, All-contains, All-from_recursion, recursion_from_All}
@@ -68,7 +67,7 @@ top_around points u m valid out high p h =
     let sums : point.anchor * m + near_weight point.near * m ≤ weigh point.near u = rw (← add-mul point.anchor (near_weight point.near) m) (omega (arith, out p h.there, mul-le-mul_left (total_weight point) h.top)) in
     record {
       bare = omega (arith, sums, weigh-high point.near u m bounded);
-      near = λ k d in'. record { there = (all k d in').there; top = All-from_recursion _ _ (tight point.near u m bounded (omega arith)) k d in' }
+      near = λ k d in'. record { there = (all k d in').there; top = All-from_recursion _ _ (tight point.near u m bounded (omega arith)) k d in' };
     }
 
 -- no point with a chain reaches the bound m + 1 of all
@@ -92,9 +91,9 @@ lowered : (points : List Point) (u : ℕ → ℕ) (m : ℕ) → IsValid points �
 lowered points u zero valid chains out high = high
 lowered points u (suc m) valid chains out high =
     lowered points u m valid chains out (λ k there. ⊎_elim
-      (λ top. absurd (no_top points u m valid out high k (chains k there).0 (chains k there).1 (record { there = there; top = top })))
-      (λ le. omega arith)
-      (cases_lt m (u k)))
+    (λ top. absurd (no_top points u m valid out high k (chains k there).0 (chains k there).1 (record { there = there; top = top })))
+    (λ le. omega arith)
+    (cases_lt m (u k)))
 
 -- where each point has a chain, only 0 is outweighed everywhere
 pub vanishes : (points : List Point) (u : ℕ → ℕ) → IsValid points → ((p : ℕ) → p < length points → HasChain (joints_of points) p) → IsOutweighed points u → (k : ℕ) → k < length points → u k ≤ 0
@@ -109,9 +108,9 @@ excess : (p : Point) (a b : ℕ → ℕ) (i : ℕ) → total_weight p * a i + we
 excess p a b i le =
     let rest : weigh p.near a ≤ weigh p.near b + weigh p.near (λ j. a j - b j) = weigh-add p.near a b (λ j. a j - b j) (λ j. omega arith) in
     ⊎_elim
-      (λ (above : b i < a i). let split : a i ≡ b i + (a i - b i) = omega arith in omega (arith, rest, le, ap (λ x. total_weight p * x) split))
-      (λ (below : a i ≤ b i). let none : a i - b i ≡ 0 = omega arith in rw none (omega arith))
-      (cases_lt (b i) (a i))
+    (λ (above : b i < a i). let split : a i ≡ b i + (a i - b i) = omega arith in omega (arith, rest, le, ap (λ x. total_weight p * x) split))
+    (λ (below : a i ≤ b i). let none : a i - b i ≡ 0 = omega arith in rw none (omega arith))
+    (cases_lt (b i) (a i))
 
 -- One function lies below another where its equations leave no more: total * a + weigh b ≤ total * b + weigh a.
 pub compared : (points : List Point) (a b : ℕ → ℕ) → IsValid points → ((p : ℕ) → p < length points → HasChain (joints_of points) p)

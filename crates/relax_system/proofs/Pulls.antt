@@ -1,12 +1,12 @@
 -- The pull on a point: it grows with the vector, and lies between the total weight times the ends of the box.
-use Rattle.std.proofs.Common.{◌≡◌, ℕ, ◌+◌, ◌*◌, ◌<◌, ◌≤◌, List, [], ◌∷◌, length, arith}
-use Rattle.std.specs.List.{sum_by, slice_index, All, AllByRecursion}
+use Rattle.std.proofs.Common.{◌≡◌, ℕ, ◌*◌, ◌≤◌, List, [], ◌∷◌, arith}
+use Rattle.std.specs.List.{slice_index, All, AllByRecursion}
 use Rattle.std.proofs.Math.Nat.{add-mul, mul-le-mul_left}
 use Rattle.std.proofs.lemmas.List.Sums.{sum_by-cons, sum_by-le-sum_by}
 use Rattle.std.proofs.lemmas.List.Elements.{All-weaker, recursion_from_All}
 use Rattle.relax_system.specs.declared.points.Near.{Near}
 use Rattle.relax_system.specs.declared.points.Point.{Point}
-use Rattle.relax_system.specs.System.{near_weight, total_weight, point_at, IsValid, IsValidNear, IsValidPoint}
+use Rattle.relax_system.specs.System.{near_weight, total_weight, point_at, IsValidNear, IsValidPoint}
 use Rattle.relax_system.specs.Means.{AtMost, InBoxes, weighted_sum, pull}
 
 pub weighted_sum-mono : (near : List Near) (u v : List ℕ) → AtMost u v → weighted_sum near u ≤ weighted_sum near v

@@ -7,8 +7,8 @@ use Rattle.std.proofs.lemmas.List.{get_or_past}
 use Rattle.std.proofs.lemmas.Bool.{cases_lt}
 use Rattle.pad_reach.specs.Chain.{HasChain}
 use Rattle.relax_system.specs.declared.points.Point.{Point}
-use Rattle.relax_system.specs.System.{total_weight, point_at, IsValid, joints_of}
-use Rattle.relax_system.specs.Means.{AtMost, InBoxes, IsFloorFixed, IsCeilFixed, pull}
+use Rattle.relax_system.specs.System.{IsValid, joints_of}
+use Rattle.relax_system.specs.Means.{AtMost, InBoxes, IsFloorFixed, IsCeilFixed}
 use Rattle.relax_system.specs.Exact.{HasLowerResiduals, HasUpperResiduals}
 use Rattle.relax_system.proofs.Maximum.{compared}
 

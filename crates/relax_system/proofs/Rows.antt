@@ -26,7 +26,7 @@ IsFlat_none = record {
   numbered = refl;
   weighted = refl;
   summed = refl;
-  pulled = refl
+  pulled = refl;
 }
 
 pub IsFlat_push : (points : List Point) (starts numbers weights totals anchored : List ℕ) (p : Point) → IsFlat points starts numbers weights totals anchored
@@ -36,14 +36,14 @@ IsFlat_push points starts numbers weights totals anchored p h =
     record {
       many = omega (arith, length_push starts (length (numbers ++ near_numbers p)), length_push points p, h.many);
       starting = λ k in'. ⊎_elim
-        (λ past. let last : k ≡ length points + 1 = omega (arith, length_push points p) in
+          (λ past. let last : k ≡ length points + 1 = omega (arith, length_push points p) in
           rw (get_or_push starts (length (numbers ++ near_numbers p)) 0 k (omega (arith, h.many)), take_all k (points ++ p ∷ []) (omega (arith, length_push points p))) (ap length grown))
-        (λ before. rw (get_or_append_left starts (length (numbers ++ near_numbers p) ∷ []) 0 k (omega (arith, h.many)), take-append-le k points (p ∷ []) before) (h.starting k before))
-        (cases_lt (length points) k);
+          (λ before. rw (get_or_append_left starts (length (numbers ++ near_numbers p) ∷ []) 0 k (omega (arith, h.many)), take-append-le k points (p ∷ []) before) (h.starting k before))
+          (cases_lt (length points) k);
       numbered = grown;
       weighted = ap (λ ws. ws ++ near_weights p) h.weighted ∙ sym (flat_map_push near_weights points p);
       summed = ap (λ ts. ts ++ total_weight p ∷ []) h.summed ∙ sym (map_push total_weight points p);
-      pulled = ap (λ bs. bs ++ p.anchored ∷ []) h.pulled ∙ sym (map_push (λ (p : Point). p.anchored) points p)
+      pulled = ap (λ bs. bs ++ p.anchored ∷ []) h.pulled ∙ sym (map_push (λ (p : Point). p.anchored) points p);
     }
 
 -- the arrays of one point more, as they were made
@@ -98,7 +98,7 @@ IsFlat-row points starts numbers weights totals anchored i h there =
       numbered = rw h.numbered (piece near_numbers points i _ _ no_point there begins ends);
       weighted = rw h.weighted (piece near_weights points i _ _ no_point there (begins ∙ same_lengths (take i points)) (ends ∙ same_lengths (take (i + 1) points)));
       summed = rw h.summed (get_or-map total_weight points i no_point 0 there);
-      pulled = rw h.pulled (get_or-map (λ (p : Point). p.anchored) points i no_point 0 there)
+      pulled = rw h.pulled (get_or-map (λ (p : Point). p.anchored) points i no_point 0 there);
     }
 
 -- an entry that was read of a mapped list
@@ -126,7 +126,7 @@ IsSoundRow-of points i narrow numbers weights anchored total v h valid fits ther
       fits = λ flag. rw sum (pull_narrow points i v valid (fits flag) there boxes);
       high = rw (sum, h.summed) (pull_light points i v valid there boxes);
       positive = rw h.summed (valid.each i there).joined;
-      light = rw h.summed (valid.each i there).light
+      light = rw h.summed (valid.each i there).light;
     }
 
 pub rounded-row : (side : Side) (points : List Point) (i : ℕ) (numbers weights : List ℕ) (anchored total : ℕ) (v : List ℕ) → IsRowOf (point_at points i) numbers weights anchored total

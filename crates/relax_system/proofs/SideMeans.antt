@@ -1,12 +1,11 @@
 -- Both sides' means: they lie in the box, and they keep the order of vectors.
-use Rattle.std.proofs.Common.{◌≡◌, ℕ, ◌+◌, ◌*◌, ◌<◌, ◌≤◌, List, length, refl, arith}
-use Rattle.std.specs.List.{slice_index}
+use Rattle.std.proofs.Common.{◌≡◌, ℕ, ◌<◌, ◌≤◌, List, length, refl, arith}
 use Rattle.relax_system.specs.declared.side.Side.{Side}
 use Rattle.relax_system.specs.declared.side.Side.TheVariants.{Floor, Ceil}
 use Rattle.relax_system.specs.declared.points.Point.{Point}
-use Rattle.relax_system.specs.System.{total_weight, point_at, IsValid}
-use Rattle.relax_system.specs.Means.{InBoxes, pull}
-use Rattle.relax_system.specs.Sides.{Before, AllBefore, mean_of, start_of}
+use Rattle.relax_system.specs.System.{point_at, IsValid}
+use Rattle.relax_system.specs.Means.{InBoxes}
+use Rattle.relax_system.specs.Sides.{Before, AllBefore, mean_of}
 use Rattle.relax_system.proofs.Division.{div-mono, div-high, div-low, div_ceil-mono, div_ceil-high, div_ceil-low}
 use Rattle.relax_system.proofs.Pulls.{pull-mono, pull-low, pull-high}
 

@@ -1,5 +1,5 @@
 -- Sums of whole numbers of either sign, read as differences of two numbers.
-use Rattle.std.proofs.Common.{◌≡◌, ℕ, ◌+◌, ◌*◌, List, [], ◌∷◌, zero, suc, refl, ap, arith, ℤ, pos, negsuc, ◌+ℤ◌, ◌*ℤ◌}
+use Rattle.std.proofs.Common.{◌≡◌, ℕ, ◌+◌, ◌*◌, List, [], ◌∷◌, arith, ℤ, pos, negsuc, ◌*ℤ◌}
 use borrow.Author.Differences.{up, down}
 use Rattle.std.proofs.lemmas.Int.{ints}
 use Rattle.relax_system.specs.declared.points.Near.{Near}

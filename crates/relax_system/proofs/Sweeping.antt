@@ -24,15 +24,18 @@ swept_past side points u v moved i m valid h there e past =
     let next : IsOnWay side points (set v i m) = rw e (IsOnWay-set side points v i valid h.way there) in
     record {
       way = next;
-      moved_or_same = closer side points u v (set v i m) moved i h (room-set side points v i m next.in_boxes (omega (arith, h.way.in_boxes.all)) past.0 past.1)
+      moved_or_same = closer side points u v (set v i m) moved i h (room-set side points v i m next.in_boxes (omega (arith, h.way.in_boxes.all)) past.0 past.1);
     }
 
 pub swept_still : (side : Side) (points : List Point) (u v : List ℕ) (moved : Bool) (i m : ℕ) → IsSwept side points u v moved i → m ≡ mean_of side points i v → Before side m (slice_index v i) → IsSwept side points u v moved (i + 1)
 swept_still side points u v true i m h e still = record { way = h.way; moved_or_same = h.moved_or_same }
 swept_still side points u v false i m h e still = record {
   way = h.way;
-  moved_or_same = (h.moved_or_same.0, λ k in'. ⊎_elim
-      (λ same. rw same (rw e at still))
-      (λ other. h.moved_or_same.1 k (omega arith))
-      (cases_eq k i))
+  moved_or_same = (
+    h.moved_or_same.0,
+    λ k in'. ⊎_elim
+        (λ same. rw same (rw e at still))
+        (λ other. h.moved_or_same.1 k (omega arith))
+        (cases_eq k i),
+  );
 }

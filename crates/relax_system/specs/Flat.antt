@@ -1,7 +1,6 @@
 -- A system's points in flat arrays.
 use Rattle.std.specs.Prelude.{◌≡◌, ℕ, ◌+◌, ◌*◌, ◌^◌, ◌<◌, ◌≤◌, List, length, map, take, slice_index, sum_by, All, Bool, IsTrue}
 use Rattle.std.specs.List.{flat_map, zip}
-use Rattle.relax_system.specs.declared.points.Near.{Near}
 use Rattle.relax_system.specs.declared.points.Point.{Point}
 use Rattle.relax_system.specs.System.{total_weight}
 

@@ -100,7 +100,15 @@ impl<'a> Flat<'a> {
     {
         let numbers = part(&self.numbers, &self.starts, i);
         let weights = part(&self.weights, &self.starts, i);
-        row_mean(side, narrow, numbers, weights, self.anchored[i], self.totals[i], v)
+        row_mean(
+            side,
+            narrow,
+            numbers,
+            weights,
+            self.anchored[i],
+            self.totals[i],
+            v,
+        )
     }
 }
 
@@ -129,7 +137,15 @@ fn part<'a, T>(entries: &'a [T], starts: &[usize], i: usize) -> &'a [T]
 
 /// A side's rounded mean: the sum of weight times coordinate and of `anchored`, over the total weight.
 #[inline(always)]
-fn row_mean(side: Side, narrow: bool, numbers: &[u32], weights: &[u64], anchored: u128, total: u64, v: &[u64]) -> u64
+fn row_mean(
+    side: Side,
+    narrow: bool,
+    numbers: &[u32],
+    weights: &[u64],
+    anchored: u128,
+    total: u64,
+    v: &[u64],
+) -> u64
     requires { IsSoundRow narrow numbers.now weights.now anchored total v.now }
     ensures { result ≡ rounded side (dot numbers.now weights.now v.now + anchored) total }
 {

@@ -1,7 +1,7 @@
-use Rattle.std.proofs.Common.{◌≡◌, ℕ, ◌*◌, ◌<◌, ◌+◌, length, ◌∙◌, arith}
+use Rattle.std.proofs.Common.{arith}
 use Rattle.std.proofs.lemmas.List.{length_push}
 use Rattle.std.proofs.lemmas.Slice.Zip.{zip_turn, zip_end}
-use Rattle.relax_system.proofs.Dots.{dot_so_far, next_term, dot_all}
+use Rattle.relax_system.proofs.Dots.{next_term, dot_all}
 use Rattle.relax_system.proofs.flat.narrow_dot.Goals as goal
 
 pub overflow_mul-sum : goal.overflow_mul-sum

@@ -1,4 +1,4 @@
-use Rattle.std.proofs.Common.{◌≡◌, ℕ, ◌<◌, List, length, arith, ◌∙◌}
+use Rattle.std.proofs.Common.{◌≡◌, ℕ, ◌<◌, List, length, ◌∙◌}
 use Rattle.relax_system.specs.declared.points.Point.{Point}
 use Rattle.relax_system.specs.System.{point_at, no_point, total_weight}
 use Rattle.relax_system.specs.Flat.{IsFlat}
@@ -37,7 +37,7 @@ row_mean-requires c =
       numbered = c.part-numbers.ensures ∙ rw (c.deref.ensures.value, c.deref-2.ensures.value) row.numbered;
       weighted = c.part-weights.ensures ∙ rw (c.deref-3.ensures.value, c.deref-4.ensures.value) row.weighted;
       pulled = rw (← c.self.view_is) (read_mapped (λ (p : Point). p.anchored) _ _ c.args.i _ no_point c.self.invariant.pulled there c.index.ensures);
-      summed = rw (← c.self.view_is) (read_mapped total_weight _ _ c.args.i _ no_point c.self.invariant.summed there c.index-2.ensures)
+      summed = rw (← c.self.view_is) (read_mapped total_weight _ _ c.args.i _ no_point c.self.invariant.summed there c.index-2.ensures);
     } in
     IsSoundRow-of c.args.self.now c.args.i c.args.narrow _ _ _ _ c.args.v.now read c.requires.valid c.requires.narrow c.requires.point c.requires.boxes
 
@@ -49,6 +49,6 @@ returns c =
       numbered = c.part-numbers.ensures ∙ rw (c.deref.ensures.value, c.deref-2.ensures.value) row.numbered;
       weighted = c.part-weights.ensures ∙ rw (c.deref-3.ensures.value, c.deref-4.ensures.value) row.weighted;
       pulled = rw (← c.self.view_is) (read_mapped (λ (p : Point). p.anchored) _ _ c.args.i _ no_point c.self.invariant.pulled there c.index.ensures);
-      summed = rw (← c.self.view_is) (read_mapped total_weight _ _ c.args.i _ no_point c.self.invariant.summed there c.index-2.ensures)
+      summed = rw (← c.self.view_is) (read_mapped total_weight _ _ c.args.i _ no_point c.self.invariant.summed there c.index-2.ensures);
     } in
     c.row_mean.ensures ∙ rounded-row c.args.side c.args.self.now c.args.i _ _ _ _ c.args.v.now read

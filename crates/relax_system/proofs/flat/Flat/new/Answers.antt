@@ -12,5 +12,5 @@ loop-i-preserved c =
       numbered = search rules;
       weighted = search rules;
       summed = rw (← total) (search rules);
-      pulled = search rules
+      pulled = search rules;
     })

@@ -1,4 +1,4 @@
-use Rattle.std.proofs.Common.{◌≡◌, take}
+use Rattle.std.proofs.Common.{take}
 use Rattle.relax_system.specs.Flat.{IsFlat}
 use Rattle.relax_system.proofs.flat.Flat.new.Given as goal
 

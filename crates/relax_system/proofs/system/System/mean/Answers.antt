@@ -1,9 +1,7 @@
 use Rattle.std.proofs.Common.{◌≡◌, refl, ◌∙◌, arith}
 use Rattle.relax_system.specs.System.{point_at, total_weight}
 use Rattle.relax_system.specs.Means.{pull}
-use Rattle.relax_system.specs.Sides.{mean_of, rounded}
-use Rattle.relax_system.proofs.Fits.{pull_light, pull_wide, pull_narrow, rounded-pull}
-use Rattle.relax_system.proofs.SideMeans.{mean-low, mean-high}
+use Rattle.relax_system.proofs.Fits.{pull_light, pull_wide, pull_narrow}
 use Rattle.relax_system.proofs.system.System.mean.Goals as goal
 
 pub narrow_pull-requires-clause-fits : goal.narrow_pull-requires-clause-fits
