@@ -58,14 +58,29 @@ onto_decided : {I R : Type 0} (form : Form I R) (before : List I) (line : Number
     → form.meaning before line ≡ Ok item → Decided form (before ++ item ∷ []) lines → Decided form before (line ∷ lines)
 onto_decided form before line lines item means (inl all) = inl (item ∷ all.0, (means, all.1))
 onto_decided form before line lines item means (inr fault) = inr (record {
-    front = line ∷ fault.front; line = fault.line; rest = fault.rest; split = ap (λ ls. line ∷ ls) fault.split;
-    items = item ∷ fault.items; mean = (means, fault.mean); kind = fault.kind; first = rw (← one_more) fault.first })
+  front = line ∷ fault.front;
+  line = fault.line;
+  rest = fault.rest;
+  split = ap (λ ls. line ∷ ls) fault.split;
+  items = item ∷ fault.items;
+  mean = (means, fault.mean);
+  kind = fault.kind;
+  first = rw (← one_more) fault.first;
+})
 
 decided_at : {I R : Type 0} (form : Form I R) (before : List I) (line : NumberedLine) (lines : List NumberedLine) (meaning : Result I TextKind)
     → form.meaning before line ≡ meaning → ((item : I) → Decided form (before ++ item ∷ []) lines) → Decided form before (line ∷ lines)
 decided_at form before line lines (Ok item) is go_on = onto_decided form before line lines item is (go_on item)
 decided_at form before line lines (Err kind) is go_on = inr (record {
-    front = []; line = line; rest = lines; split = refl; items = []; mean = tt; kind = kind; first = rw append-nil is })
+  front = [];
+  line = line;
+  rest = lines;
+  split = refl;
+  items = [];
+  mean = tt;
+  kind = kind;
+  first = rw append-nil is;
+})
 
 -- each line has its meaning, or there is a first fault
 decided : {I R : Type 0} (form : Form I R) (before : List I) (lines : List NumberedLine) → Decided form before lines

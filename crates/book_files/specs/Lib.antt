@@ -6,3 +6,4 @@ pub mod Nodes
 pub mod Weights
 pub mod Places
 pub mod Laws
+pub mod Progress

@@ -22,6 +22,47 @@ pub struct TextFault {
     pub kind: TextKind,
 }
 
+/// Why a line isn't kept: its first fault, or want of memory.
+#[derive(Clone, Copy, Debug, PartialEq, Eq)]
+pub enum LineError {
+    Kind(TextKind),
+    Memory,
+}
+
+impl LineError {
+    ghost use Rattle.book_files.specs.Progress.{error_at};
+
+    /// The same at a line's number.
+    pub fn at(self, line: u64) -> ReadError
+        ensures { result ≡ error_at line self }
+    {
+        match self {
+            LineError::Kind(kind) => ReadError::Fault(TextFault { line, kind }),
+            LineError::Memory => ReadError::Memory,
+        }
+    }
+}
+
+impl From<TextKind> for LineError {
+    ghost use Rattle.book_files.specs.declared.fault.LineError.TheVariants.{Kind};
+
+    ghost from_gives = { λ kind e. e ≡ Kind kind };
+
+    fn from(kind: TextKind) -> LineError {
+        LineError::Kind(kind)
+    }
+}
+
+impl<T: Drop> From<AllocFailed<T>> for LineError {
+    ghost use Rattle.book_files.specs.declared.fault.LineError.TheVariants.{Memory};
+
+    ghost from_gives = { λ _ e. e ≡ Memory };
+
+    fn from(_: AllocFailed<T>) -> LineError {
+        LineError::Memory
+    }
+}
+
 /// Why a file gave no records.
 #[derive(Clone, Copy, Debug, PartialEq, Eq)]
 pub enum ReadError {

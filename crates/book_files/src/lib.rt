@@ -16,6 +16,7 @@ mod nodes;
 mod orient;
 mod places;
 mod records;
+mod walk;
 mod weights;
 
 pub use aux::read_aux;
