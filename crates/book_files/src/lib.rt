@@ -18,6 +18,7 @@ mod places;
 mod records;
 mod walk;
 mod weights;
+mod words;
 
 pub use aux::read_aux;
 pub use fault::{ReadError, TextFault, TextKind};
