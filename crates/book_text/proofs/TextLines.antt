@@ -1,9 +1,9 @@
 -- The lines of a text from its front, and whether a line is passed over.
-use Rattle.std.proofs.Common.{◌≡◌, ◌==◌, ℕ, ◌+◌, ◌<◌, Bool, true, false, not, cond, List, [], ◌∷◌, length, take, drop, get_or, refl, sym, ap, subst, ◌∙◌, ⊎_elim, arith, suc, zero}
-use Rattle.std.specs.List.{onto_first, prefix_len, position_or_len}
-use Rattle.std.proofs.lemmas.Bool.{cases_Bool, eqb-true, not_from_true, not_from_false}
+use Rattle.std.proofs.Common.{◌≡◌, ◌==◌, ℕ, ◌+◌, ◌-◌, ◌<◌, Bool, if◌then◌else◌, true, false, not, cond, List, [], ◌∷◌, length, take, drop, get_or, refl, sym, ap, subst, ◌∙◌, ⊎_elim, arith, suc, zero}
+use Rattle.std.specs.List.{onto_first, prefix_len, position_or_len, count_by}
+use Rattle.std.proofs.lemmas.Bool.{cases_Bool, cond-true, cond-false, eqb-true, not_from_true, not_from_false}
 use Rattle.std.proofs.lemmas.List.{drop_all, drop_more}
-use Rattle.std.proofs.lemmas.List.Sums.{prefix_len_stops}
+use Rattle.std.proofs.lemmas.List.Sums.{prefix_len_stops, sum_by-cons}
 use Rattle.book_text.proofs.Prefixes.{prefix_len-yes, prefix_len-no, take_prefix-yes}
 use Rattle.book_text.proofs.Words.{words_of-colon, words_of-blanks, first_word}
 use Rattle.book_text.specs.Lines.{is_blank, is_colon, words_of, lines_of, has_content, is_comment_word, content_from}
@@ -67,3 +67,43 @@ pub content_from-first : (number : ℕ) (text : List ℕ) → 0 < length text
     (content_from (number + 1) (drop (first_end text + 1) text))
 content_from-first number [] some = absurd (omega arith)
 content_from-first number (b ∷ text) some = rw (lines_of-first b text) refl
+
+length-onto_first : (b : ℕ) (lines : List (List ℕ)) → 0 < length lines → length (onto_first b lines) ≡ length lines
+length-onto_first b [] some = absurd (omega arith)
+length-onto_first b (line ∷ lines) some = refl
+
+-- the line that a text ends with, if it lacks its end
+abbrev pub open_lines : List ℕ → ℕ
+open_lines [] = 0
+open_lines (b ∷ []) = if is_line_end b then 0 else 1
+open_lines (b ∷ c ∷ text) = open_lines (c ∷ text)
+
+open_lines-cons : (b : ℕ) (text : List ℕ) → open_lines (b ∷ text) ≡ (if is_line_end (get_or (b ∷ text) (length text) 0) then 0 else 1)
+open_lines-cons b [] = refl
+open_lines-cons b (c ∷ text) = open_lines-cons c text
+
+pub open_lines-last : (text : List ℕ) → 0 < length text → open_lines text ≡ (if is_line_end (get_or text (length text - 1) 0) then 0 else 1)
+open_lines-last [] some = absurd (omega arith)
+open_lines-last (b ∷ text) some = let last : length text ≡ suc (length text) - 1 = omega arith in
+    open_lines-cons b text ∙ ap (λ i. if is_line_end (get_or (b ∷ text) i 0) then 0 else 1) last
+
+length-lines_of-step : (b c : ℕ) (text : List ℕ) → length (lines_of (c ∷ text)) ≡ count_by is_line_end (c ∷ text) + open_lines (c ∷ text)
+    → length (lines_of (b ∷ c ∷ text)) ≡ count_by is_line_end (b ∷ c ∷ text) + open_lines (b ∷ c ∷ text)
+length-lines_of-step b c text rest = let counted = sum_by-cons (λ x. cond (is_line_end x) 1 0) b (c ∷ text) in ⊎_elim
+    (λ ends. ap length (lines_of-end b (c ∷ text) ends) ∙ omega (arith, rest, counted, cond-true {A = ℕ} (is_line_end b) 1 0 ends))
+    (λ goes_on. ap length (lines_of-more b (c ∷ text) goes_on)
+    ∙ length-onto_first b (lines_of (c ∷ text)) (omega (arith, ap length (lines_of-first c text)))
+    ∙ omega (arith, rest, counted, cond-false {A = ℕ} (is_line_end b) 1 0 goes_on))
+    (cases_Bool (is_line_end b))
+
+length-lines_of-one : (b : ℕ) → length (lines_of (b ∷ [])) ≡ count_by is_line_end (b ∷ []) + open_lines (b ∷ [])
+length-lines_of-one b = ⊎_elim
+    (λ ends. ap length (lines_of-end b [] ends) ∙ sym (rw ends refl))
+    (λ goes_on. ap length (lines_of-more b [] goes_on) ∙ sym (rw goes_on refl))
+    (cases_Bool (is_line_end b))
+
+-- a text has a line for each line end, and one that lacks it
+pub length-lines_of : (text : List ℕ) → length (lines_of text) ≡ count_by is_line_end text + open_lines text
+length-lines_of [] = refl
+length-lines_of (b ∷ []) = length-lines_of-one b
+length-lines_of (b ∷ c ∷ text) = length-lines_of-step b c text (length-lines_of (c ∷ text))

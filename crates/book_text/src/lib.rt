@@ -10,7 +10,7 @@ mod line;
 mod memory;
 mod number;
 
-pub use line::{Line, Span, next_line, next_word};
+pub use line::{Line, Span, count_lines, next_line, next_word};
 pub use memory::Memory;
 pub use number::{NumberFault, read_whole};
 

@@ -1,8 +1,8 @@
 //! The lines of a text and the words of a line, walked by places.
 
 ghost use Rattle.std.specs.Prelude.{◌≡◌, ◌+◌, ◌-◌, ◌≤◌, ◌==◌, [], length, drop, slice_range, MatchOption};
-ghost use Rattle.std.specs.List.{prefix_len, suffix_len, position_or_len};
-ghost use Rattle.book_text.specs.Lines.{is_blank, is_colon, has_content, words_of, content_from};
+ghost use Rattle.std.specs.List.{prefix_len, suffix_len, position_or_len, count_by};
+ghost use Rattle.book_text.specs.Lines.{is_blank, is_colon, has_content, lines_of, words_of, content_from};
 ghost use Rattle.book_text.specs.Walk.{IsNextLine, IsNextWord};
 
 /// A part of a text: the places from `from` up to, but not including, `to`.
@@ -57,6 +57,24 @@ pub fn next_line(text: &[u8], at: usize, number: u64) -> Option<Line>
         line += 1;
     }
     None
+}
+
+/// The number of lines of a text. A last line without a byte 10 behind it is one too.
+pub fn count_lines(text: &[u8]) -> u64
+    ensures { result ≡ length (lines_of text.now) }
+{
+    let ends = line_ends(text) as u64;
+    match text {
+        [.., last] if *last != LINE_END => ends + 1,
+        _ => ends,
+    }
+}
+
+fn line_ends(text: &[u8]) -> usize
+    ensures count { result ≡ count_by (λ b. b == 10) text.now }
+    ensures within { result ≤ length text.now }
+{
+    text.iter().filter(|byte| **byte == LINE_END).count()
 }
 
 /// Where the line that starts at `at` ends: at the next byte 10, or at the text's end.

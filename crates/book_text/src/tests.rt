@@ -1,4 +1,4 @@
-use crate::{NumberFault, Span, next_line, next_word, read_whole};
+use crate::{NumberFault, Span, count_lines, next_line, next_word, read_whole};
 use std::process::Abort;
 
 /// The words of the line are these, walked one by one.
@@ -51,6 +51,22 @@ fn expect_lines(rt: &impl Abort, text: &[u8], lines: &[(u64, &[u8])]) {
     }
     assert!(rt; at <= text.len() && number <= at as u64 + 1);
     assert_eq!(rt; next_line(text, at, number), None);
+}
+
+#[test]
+fn lines_are_counted(rt: HostRuntime) {
+    let known: [(&[u8], u64); 7] = [
+        (b"", 0),
+        (b"a", 1),
+        (b"\n", 1),
+        (b"a\n", 1),
+        (b"a\r\nb", 2),
+        (b"\n\n# c\n", 3),
+        (b"\n\n#", 3),
+    ];
+    for (text, lines) in known {
+        assert_eq!(rt; count_lines(text), lines);
+    }
 }
 
 #[test]

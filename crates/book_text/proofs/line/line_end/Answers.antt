@@ -16,4 +16,4 @@ pub returns-in-None-clause-place : goal.returns-in-None-clause-place
 returns-in-None-clause-place c =
     let text = c.args.text.now in let at = c.args.at in let rest = take (length text - at) (drop at text) in
     let found = position_from_yields_List (λ b. b == 10) _ _ _ c.in-None.ensures.ran (YieldsList-from_slice rest cc) (λ x b q k. search (rules, tests)) in
-    omega (arith, passed-none (λ b. not (b == 10)) rest found, take_rest text at, ap length (take_rest text at), ap (position_or_len (λ b. b == 10)) (take_rest text at), length-drop at text)
+    omega (arith, passed-none (λ b. not (b == 10)) rest found, ap length (take_rest text at), ap (position_or_len (λ b. b == 10)) (take_rest text at), length-drop at text)
