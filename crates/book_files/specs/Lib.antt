@@ -7,3 +7,4 @@ pub mod Weights
 pub mod Places
 pub mod Laws
 pub mod Progress
+pub mod SoFar

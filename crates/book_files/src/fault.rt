@@ -1,5 +1,7 @@
-ghost use Rattle.std.specs.Prelude.{◌≡◌};
+ghost use Rattle.std.specs.Prelude.{◌≡◌, Err};
+ghost use Rattle.book_text.specs.Lines.{end_line};
 
+use book_text::count_lines;
 use std::alloc::{AllocError, AllocFailed};
 
 /// What is wrong with a line, or with the whole at its end.
@@ -90,4 +92,14 @@ impl<T: Drop> From<AllocFailed<T>> for ReadError {
     fn from(_: AllocFailed<T>) -> ReadError {
         ReadError::Memory
     }
+}
+
+/// The fault that is seen at the end of a text.
+pub fn fault_at_end(text: &[u8], kind: TextKind) -> ReadError
+    ensures { result ≡ ReadError.Fault (record { line = end_line text.now; kind = kind }) }
+{
+    ReadError::Fault(TextFault {
+        line: count_lines(text) + 1,
+        kind,
+    })
 }
