@@ -3,3 +3,7 @@ pub mod Readings
 pub mod Names
 pub mod Progresses
 pub mod AuxSteps
+pub mod Items
+pub mod NodeSteps
+pub mod WeightSteps
+pub mod PlaceSteps

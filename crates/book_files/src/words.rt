@@ -2,11 +2,11 @@
 
 ghost use Rattle.std.specs.Prelude.{◌≡◌, map};
 ghost use Rattle.std.specs.Char.{to_ascii_lowercase};
-ghost use Rattle.book_files.specs.Words.{is_keyword, is_colon_word, is_header, is_keyed, count_of, whole_of};
+ghost use Rattle.book_files.specs.Words.{is_keyword, is_colon_word, is_header, is_keyed, count_of, whole_of, number_of, size_of};
 ghost use Rattle.book_files.specs.Progress.{Gives};
 
 use crate::fault::TextKind;
-use book_text::read_whole;
+use book_text::{Micro, read_whole};
 
 /// Whether the word is the keyword, which is given in small letters, in any ASCII case.
 pub fn is_keyword(key: &[u8], word: &[u8]) -> bool
@@ -62,4 +62,22 @@ pub fn whole_of(word: &[u8]) -> Result<u64, TextKind>
     ensures { Gives (λ n. n) result (whole_of word.now) }
 {
     read_whole(word).map_err(|_| TextKind::BadNumber)
+}
+
+/// The value of a number word.
+pub fn number_of(word: &[u8]) -> Result<Micro, TextKind>
+    ensures { Gives (λ number. number.0) result (number_of word.now) }
+{
+    Err(TextKind::BadNumber)
+}
+
+/// The value of a number word that isn't negative.
+pub fn size_of(word: &[u8]) -> Result<Micro, TextKind>
+    ensures { Gives (λ number. number.0) result (size_of word.now) }
+{
+    let size = number_of(word)?;
+    if size.0 < 0 {
+        return Err(TextKind::BadNumber);
+    }
+    Ok(size)
 }
