@@ -24,4 +24,4 @@ pub first_kept : (line : NumberedLine) (old : AuxSoFar) (file : AuxFile) → is_
     → (lines : List NumberedLine) → StandsFor aux_form IsAuxSoFar old lines → StandsFor aux_form IsAuxSoFar (record { file = Some file }) (lines ++ line ∷ [])
 first_kept line old file none means lines before =
     kept aux_form IsAuxSoFar lines line old (record { file = Some file }) (aux_entry file) (λ items so_far. let empty = no_item items old.file so_far none in
-        (ap (λ its. aux_meaning its line) empty ∙ means, ap (λ its. its ++ aux_entry file ∷ []) empty)) before
+    (ap (λ its. aux_meaning its line) empty ∙ means, ap (λ its. its ++ aux_entry file ∷ []) empty)) before

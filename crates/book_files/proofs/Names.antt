@@ -23,10 +23,10 @@ pub has_suffix_is : (suffix name : List ℕ) (front : ℕ) (r : Bool) → map to
 has_suffix_is suffix name front r lower is_front decides =
     let tail = drop (length (map to_ascii_lowercase name) - length suffix) (map to_ascii_lowercase name) in
     let is_tail : map to_ascii_lowercase (take (length name - front) (drop front name)) ≡ tail =
-        rw (take_rest, is_front) (rw length-map (sym (drop-map to_ascii_lowercase (length name - length suffix) name))) in
+    rw (take_rest, is_front) (rw length-map (sym (drop-map to_ascii_lowercase (length name - length suffix) name))) in
     same_from_decides r (bytes_eq suffix tail)
-        (λ t. sym lower ∙ (sym (decides.0 t) ∙ is_tail), λ e. decides.1 (is_tail ∙ (sym e ∙ sym lower)))
-        (bytes_eq-Decides suffix tail)
+    (λ t. sym lower ∙ (sym (decides.0 t) ∙ is_tail), λ e. decides.1 (is_tail ∙ (sym e ∙ sym lower)))
+    (bytes_eq-Decides suffix tail)
 
 -- the four that stand once, and the one that stands at most once
 pub aux_of_parts : (nodes nets wts pl scl : List (List ℕ)) → aux_of nodes nets wts pl scl
@@ -65,11 +65,11 @@ second_named bytes suffix names i d first inside one again =
     let name = bytes (get_or names i d) in
     let behind = named suffix (map bytes (drop (i + 1) names)) in
     let rest : named suffix (map bytes (drop i names)) ≡ name ∷ behind =
-        ap (λ ns. named suffix (map bytes ns)) (drop_more names i d inside) ∙ cond-true (has_suffix suffix name) (name ∷ behind) behind again in
+    ap (λ ns. named suffix (map bytes ns)) (drop_more names i d inside) ∙ cond-true (has_suffix suffix name) (name ∷ behind) behind again in
     let all : named suffix (map bytes names) ≡ first ∷ (name ∷ behind) =
-        ap (λ ns. named suffix (map bytes ns)) (sym (take-append-drop i names)) ∙ (ap (named suffix) (map-append bytes (take i names) (drop i names))
-        ∙ (filter-append (has_suffix suffix) (map bytes (take i names)) (map bytes (drop i names))
-        ∙ (ap (λ ns. ns ++ named suffix (map bytes (drop i names))) one ∙ ap (λ ns. first ∷ ns) rest))) in
+    ap (λ ns. named suffix (map bytes ns)) (sym (take-append-drop i names)) ∙ (ap (named suffix) (map-append bytes (take i names) (drop i names))
+    ∙ (filter-append (has_suffix suffix) (map bytes (take i names)) (map bytes (drop i names))
+    ∙ (ap (λ ns. ns ++ named suffix (map bytes (drop i names))) one ∙ ap (λ ns. first ∷ ns) rest))) in
     ap at_most_one all
 
 pub again_named : {A T : Type 0} (bytes : A → List ℕ) (text : T → List ℕ) (suffix : List ℕ) (names : List A) (i : ℕ) (d : A) (found : Option T) → i < length names

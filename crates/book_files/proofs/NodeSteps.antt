@@ -36,46 +36,54 @@ module _ (line : NumberedLine) (old new : NodesSoFar) where
 
   pub header_kept : old.begun ≡ false → is_header (codes "nodes") line.words ≡ true → new.begun ≡ true → new.total ≡ old.total → new.terminals_told ≡ old.terminals_told → new.lines.items ≡ old.lines.items
       → (lines : List NumberedLine) → StandsFor node_form IsNodesSoFar old lines → StandsFor node_form IsNodesSoFar new (lines ++ line ∷ [])
-  header_kept none is begun told terminals_told same lines before = kept node_form IsNodesSoFar lines line old new header (λ items so_far.
-      (meaning_first items line (sym so_far.begun ∙ none) ∙ cond-true _ _ _ is,
-      record {
-        begun = begun ∙ sym (has_items-push items header);
-        total = told ∙ (so_far.total ∙ sym (latest-no total_in items header refl));
-        terminals = terminals_told ∙ (so_far.terminals ∙ ap is_some (sym (latest-no terminals_in items header refl)));
-        lines = rw same (kept-no node_in items header node_entry old.lines.items refl so_far.lines) })) before
+  header_kept none is begun told terminals_told same lines before = kept node_form IsNodesSoFar lines line old new header (λ items so_far. (
+    meaning_first items line (sym so_far.begun ∙ none) ∙ cond-true _ _ _ is,
+    record {
+      begun = begun ∙ sym (has_items-push items header);
+      total = told ∙ (so_far.total ∙ sym (latest-no total_in items header refl));
+      terminals = terminals_told ∙ (so_far.terminals ∙ ap is_some (sym (latest-no terminals_in items header refl)));
+      lines = rw same (kept-no node_in items header node_entry old.lines.items refl so_far.lines);
+    },
+  )) before
 
   pub total_kept : (n : ℕ) → old.begun ≡ true → is_keyed (codes "numnodes") line.words ≡ true → count_of (is_some old.total) line.words ≡ Ok n
       → new.begun ≡ true → new.total ≡ Some n → new.terminals_told ≡ old.terminals_told → new.lines.items ≡ old.lines.items
       → (lines : List NumberedLine) → StandsFor node_form IsNodesSoFar old lines → StandsFor node_form IsNodesSoFar new (lines ++ line ∷ [])
-  total_kept n some keyed counts begun told terminals_told same lines before = kept node_form IsNodesSoFar lines line old new (total n) (λ items so_far.
-      (meaning_so_far items some so_far ∙ (cond-true _ _ _ keyed ∙ ap (λ r. r >>= λ m. Ok (total m)) counts),
-      record {
-        begun = begun ∙ sym (has_items-push items (total n));
-        total = told ∙ sym (latest-yes total_in items (total n) n refl);
-        terminals = terminals_told ∙ (so_far.terminals ∙ ap is_some (sym (latest-no terminals_in items (total n) refl)));
-        lines = rw same (kept-no node_in items (total n) node_entry old.lines.items refl so_far.lines) })) before
+  total_kept n some keyed counts begun told terminals_told same lines before = kept node_form IsNodesSoFar lines line old new (total n) (λ items so_far. (
+    meaning_so_far items some so_far ∙ (cond-true _ _ _ keyed ∙ ap (λ r. r >>= λ m. Ok (total m)) counts),
+    record {
+      begun = begun ∙ sym (has_items-push items (total n));
+      total = told ∙ sym (latest-yes total_in items (total n) n refl);
+      terminals = terminals_told ∙ (so_far.terminals ∙ ap is_some (sym (latest-no terminals_in items (total n) refl)));
+      lines = rw same (kept-no node_in items (total n) node_entry old.lines.items refl so_far.lines);
+    },
+  )) before
 
   pub terminals_kept : (t : ℕ) → old.begun ≡ true → is_keyed (codes "numnodes") line.words ≡ false → is_keyed (codes "numterminals") line.words ≡ true → count_of old.terminals_told line.words ≡ Ok t
       → new.begun ≡ true → new.total ≡ old.total → new.terminals_told ≡ true → new.lines.items ≡ old.lines.items
       → (lines : List NumberedLine) → StandsFor node_form IsNodesSoFar old lines → StandsFor node_form IsNodesSoFar new (lines ++ line ∷ [])
-  terminals_kept t some other keyed counts begun told terminals_told same lines before = kept node_form IsNodesSoFar lines line old new (terminals t) (λ items so_far.
-      (meaning_so_far items some so_far ∙ (cond-false _ _ _ other ∙ (cond-true _ _ _ keyed ∙ ap (λ r. r >>= λ m. Ok (terminals m)) counts)),
-      record {
-        begun = begun ∙ sym (has_items-push items (terminals t));
-        total = told ∙ (so_far.total ∙ sym (latest-no total_in items (terminals t) refl));
-        terminals = terminals_told ∙ ap is_some (sym (latest-yes terminals_in items (terminals t) t refl));
-        lines = rw same (kept-no node_in items (terminals t) node_entry old.lines.items refl so_far.lines) })) before
+  terminals_kept t some other keyed counts begun told terminals_told same lines before = kept node_form IsNodesSoFar lines line old new (terminals t) (λ items so_far. (
+    meaning_so_far items some so_far ∙ (cond-false _ _ _ other ∙ (cond-true _ _ _ keyed ∙ ap (λ r. r >>= λ m. Ok (terminals m)) counts)),
+    record {
+      begun = begun ∙ sym (has_items-push items (terminals t));
+      total = told ∙ (so_far.total ∙ sym (latest-no total_in items (terminals t) refl));
+      terminals = terminals_told ∙ ap is_some (sym (latest-yes terminals_in items (terminals t) t refl));
+      lines = rw same (kept-no node_in items (terminals t) node_entry old.lines.items refl so_far.lines);
+    },
+  )) before
 
   pub node_kept : (found : NodeLine) → old.begun ≡ true → is_keyed (codes "numnodes") line.words ≡ false → is_keyed (codes "numterminals") line.words ≡ false
       → node_of line.number line.words ≡ Ok (node (node_entry found)) → new.begun ≡ true → new.total ≡ old.total → new.terminals_told ≡ old.terminals_told → new.lines.items ≡ old.lines.items ++ found ∷ []
       → (lines : List NumberedLine) → StandsFor node_form IsNodesSoFar old lines → StandsFor node_form IsNodesSoFar new (lines ++ line ∷ [])
-  node_kept found some other another means begun told terminals_told pushed lines before = let item = node (node_entry found) in kept node_form IsNodesSoFar lines line old new item (λ items so_far.
-      (meaning_so_far items some so_far ∙ (cond-false _ _ _ other ∙ (cond-false _ _ _ another ∙ means)),
-      record {
-        begun = begun ∙ sym (has_items-push items item);
-        total = told ∙ (so_far.total ∙ sym (latest-no total_in items item refl));
-        terminals = terminals_told ∙ (so_far.terminals ∙ ap is_some (sym (latest-no terminals_in items item refl)));
-        lines = kept-yes node_in items item node_entry old.lines.items new.lines.items found refl pushed so_far.lines })) before
+  node_kept found some other another means begun told terminals_told pushed lines before = let item = node (node_entry found) in kept node_form IsNodesSoFar lines line old new item (λ items so_far. (
+    meaning_so_far items some so_far ∙ (cond-false _ _ _ other ∙ (cond-false _ _ _ another ∙ means)),
+    record {
+      begun = begun ∙ sym (has_items-push items item);
+      total = told ∙ (so_far.total ∙ sym (latest-no total_in items item refl));
+      terminals = terminals_told ∙ (so_far.terminals ∙ ap is_some (sym (latest-no terminals_in items item refl)));
+      lines = kept-yes node_in items item node_entry old.lines.items new.lines.items found refl pushed so_far.lines;
+    },
+  )) before
 
 -- a line of too few words, or of too many
 pub node_of-short : {A : Type 0} (bytes : A → List ℕ) (number : ℕ) (words : List A) → length words < 3 → node_of number (map bytes words) ≡ Err BadLine

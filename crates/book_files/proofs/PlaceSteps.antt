@@ -24,15 +24,17 @@ meaning_begun (item ∷ items) line begun = refl
 module _ (line : NumberedLine) (old new : PlacesSoFar) where
   pub header_kept : old.begun ≡ false → is_header (codes "pl") line.words ≡ true → new.begun ≡ true → new.lines.items ≡ old.lines.items
       → (lines : List NumberedLine) → StandsFor place_form IsPlacesSoFar old lines → StandsFor place_form IsPlacesSoFar new (lines ++ line ∷ [])
-  header_kept none is begun same lines before = kept place_form IsPlacesSoFar lines line old new header (λ items so_far.
-      (meaning_first items line (sym so_far.begun ∙ none) ∙ cond-true _ _ _ is,
-      record { begun = begun ∙ sym (has_items-push items header); lines = rw same (kept-no place_in items header place_entry old.lines.items refl so_far.lines) })) before
+  header_kept none is begun same lines before = kept place_form IsPlacesSoFar lines line old new header (λ items so_far. (
+    meaning_first items line (sym so_far.begun ∙ none) ∙ cond-true _ _ _ is,
+    record { begun = begun ∙ sym (has_items-push items header); lines = rw same (kept-no place_in items header place_entry old.lines.items refl so_far.lines) },
+  )) before
 
   pub place_kept : (place : PlaceLine) → old.begun ≡ true → place_of line.number line.words ≡ Ok (placed (place_entry place)) → new.begun ≡ true → new.lines.items ≡ old.lines.items ++ place ∷ []
       → (lines : List NumberedLine) → StandsFor place_form IsPlacesSoFar old lines → StandsFor place_form IsPlacesSoFar new (lines ++ line ∷ [])
-  place_kept place some means begun pushed lines before = let item = placed (place_entry place) in kept place_form IsPlacesSoFar lines line old new item (λ items so_far.
-      (meaning_begun items line (sym so_far.begun ∙ some) ∙ means,
-      record { begun = begun ∙ sym (has_items-push items item); lines = kept-yes place_in items item place_entry old.lines.items new.lines.items place refl pushed so_far.lines })) before
+  place_kept place some means begun pushed lines before = let item = placed (place_entry place) in kept place_form IsPlacesSoFar lines line old new item (λ items so_far. (
+    meaning_begun items line (sym so_far.begun ∙ some) ∙ means,
+    record { begun = begun ∙ sym (has_items-push items item); lines = kept-yes place_in items item place_entry old.lines.items new.lines.items place refl pushed so_far.lines },
+  )) before
 
 -- a line of too few words, or of too many
 pub place_of-short : {A : Type 0} (bytes : A → List ℕ) (number : ℕ) (words : List A) → length words < 3 → place_of number (map bytes words) ≡ Err BadLine

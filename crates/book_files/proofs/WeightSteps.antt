@@ -24,12 +24,14 @@ meaning_begun (item ∷ items) line begun = refl
 module _ (line : NumberedLine) (old new : WeightsSoFar) where
   pub header_kept : old.begun ≡ false → is_header (codes "wts") line.words ≡ true → new.begun ≡ true → new.lines.items ≡ old.lines.items
       → (lines : List NumberedLine) → StandsFor weight_form IsWeightsSoFar old lines → StandsFor weight_form IsWeightsSoFar new (lines ++ line ∷ [])
-  header_kept none is begun same lines before = kept weight_form IsWeightsSoFar lines line old new header (λ items so_far.
-      (meaning_first items line (sym so_far.begun ∙ none) ∙ cond-true _ _ _ is,
-      record { begun = begun ∙ sym (has_items-push items header); lines = rw same (kept-no weight_in items header weight_entry old.lines.items refl so_far.lines) })) before
+  header_kept none is begun same lines before = kept weight_form IsWeightsSoFar lines line old new header (λ items so_far. (
+    meaning_first items line (sym so_far.begun ∙ none) ∙ cond-true _ _ _ is,
+    record { begun = begun ∙ sym (has_items-push items header); lines = rw same (kept-no weight_in items header weight_entry old.lines.items refl so_far.lines) },
+  )) before
 
   pub weight_kept : (weight : WeightLine) → old.begun ≡ true → weight_of line.words ≡ Ok (weighed (weight_entry weight)) → new.begun ≡ true → new.lines.items ≡ old.lines.items ++ weight ∷ []
       → (lines : List NumberedLine) → StandsFor weight_form IsWeightsSoFar old lines → StandsFor weight_form IsWeightsSoFar new (lines ++ line ∷ [])
-  weight_kept weight some means begun pushed lines before = let item = weighed (weight_entry weight) in kept weight_form IsWeightsSoFar lines line old new item (λ items so_far.
-      (meaning_begun items line (sym so_far.begun ∙ some) ∙ means,
-      record { begun = begun ∙ sym (has_items-push items item); lines = kept-yes weight_in items item weight_entry old.lines.items new.lines.items weight refl pushed so_far.lines })) before
+  weight_kept weight some means begun pushed lines before = let item = weighed (weight_entry weight) in kept weight_form IsWeightsSoFar lines line old new item (λ items so_far. (
+    meaning_begun items line (sym so_far.begun ∙ some) ∙ means,
+    record { begun = begun ∙ sym (has_items-push items item); lines = kept-yes weight_in items item weight_entry old.lines.items new.lines.items weight refl pushed so_far.lines },
+  )) before

@@ -6,7 +6,7 @@ ghost use Rattle.book_files.specs.Words.{is_keyword, is_colon_word, is_header, i
 ghost use Rattle.book_files.specs.Progress.{Gives};
 
 use crate::fault::TextKind;
-use book_text::{Micro, read_whole};
+use book_text::{Micro, read_micro, read_whole};
 
 /// Whether the word is the keyword, which is given in small letters, in any ASCII case.
 pub fn is_keyword(key: &[u8], word: &[u8]) -> bool
@@ -68,7 +68,7 @@ pub fn whole_of(word: &[u8]) -> Result<u64, TextKind>
 pub fn number_of(word: &[u8]) -> Result<Micro, TextKind>
     ensures { Gives (λ number. number.0) result (number_of word.now) }
 {
-    Err(TextKind::BadNumber)
+    read_micro(word).map_err(|_| TextKind::BadNumber)
 }
 
 /// The value of a number word that isn't negative.
