@@ -22,16 +22,29 @@ is_file_name name = is_utf8 name && (has_suffix (codes ".nodes") name || (has_su
 abbrev pub named : List ℕ → List (List ℕ) → List (List ℕ)
 named suffix names = filter (has_suffix suffix) names
 
+-- none or one of these
+abbrev pub at_most_one : List (List ℕ) → Result (Option (List ℕ)) TextKind
+at_most_one [] = Ok None
+at_most_one (name ∷ []) = Ok (Some name)
+at_most_one (name ∷ other ∷ names) = Err BadLine
+
+-- the one of these
+abbrev pub only : List (List ℕ) → Result (List ℕ) TextKind
+only [] = Err BadLine
+only (name ∷ []) = Ok name
+only (name ∷ other ∷ names) = Err BadLine
+
 -- four of the suffixes stand exactly once, and `.wts` at most once
 abbrev pub aux_of : List (List ℕ) → List (List ℕ) → List (List ℕ) → List (List ℕ) → List (List ℕ) → Result AuxEntry TextKind
 aux_of (nodes ∷ []) (nets ∷ []) [] (pl ∷ []) (scl ∷ []) = Ok (record { nodes = nodes; nets = nets; wts = None; pl = pl; scl = scl })
 aux_of (nodes ∷ []) (nets ∷ []) (wts ∷ []) (pl ∷ []) (scl ∷ []) = Ok (record { nodes = nodes; nets = nets; wts = Some wts; pl = pl; scl = scl })
 aux_of nodes nets wts pl scl = Err BadLine
 
+abbrev pub aux_by_suffix : List (List ℕ) → Result AuxEntry TextKind
+aux_by_suffix names = aux_of (named (codes ".nodes") names) (named (codes ".nets") names) (named (codes ".wts") names) (named (codes ".pl") names) (named (codes ".scl") names)
+
 abbrev pub names_of : List (List ℕ) → Result AuxEntry TextKind
-names_of names = if list_all is_file_name names
-    then aux_of (named (codes ".nodes") names) (named (codes ".nets") names) (named (codes ".wts") names) (named (codes ".pl") names) (named (codes ".scl") names)
-    else Err BadLine
+names_of names = if list_all is_file_name names then aux_by_suffix names else Err BadLine
 
 abbrev pub behind_two : List (List ℕ) → List (List ℕ)
 behind_two (first ∷ second ∷ rest) = rest

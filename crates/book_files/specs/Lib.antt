@@ -6,3 +6,5 @@ pub mod Nodes
 pub mod Weights
 pub mod Places
 pub mod Laws
+pub mod Progress
+pub mod SoFar

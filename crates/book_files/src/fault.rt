@@ -1,5 +1,7 @@
-ghost use Rattle.std.specs.Prelude.{◌≡◌};
+ghost use Rattle.std.specs.Prelude.{◌≡◌, Err};
+ghost use Rattle.book_text.specs.Lines.{end_line};
 
+use book_text::count_lines;
 use std::alloc::{AllocError, AllocFailed};
 
 /// What is wrong with a line, or with the whole at its end.
@@ -20,6 +22,47 @@ pub enum TextKind {
 pub struct TextFault {
     pub line: u64,
     pub kind: TextKind,
+}
+
+/// Why a line isn't kept: its first fault, or want of memory.
+#[derive(Clone, Copy, Debug, PartialEq, Eq)]
+pub enum LineError {
+    Kind(TextKind),
+    Memory,
+}
+
+impl LineError {
+    ghost use Rattle.book_files.specs.Progress.{error_at};
+
+    /// The same at a line's number.
+    pub fn at(self, line: u64) -> ReadError
+        ensures { result ≡ error_at line self }
+    {
+        match self {
+            LineError::Kind(kind) => ReadError::Fault(TextFault { line, kind }),
+            LineError::Memory => ReadError::Memory,
+        }
+    }
+}
+
+impl From<TextKind> for LineError {
+    ghost use Rattle.book_files.specs.declared.fault.LineError.TheVariants.{Kind};
+
+    ghost from_gives = { λ kind e. e ≡ Kind kind };
+
+    fn from(kind: TextKind) -> LineError {
+        LineError::Kind(kind)
+    }
+}
+
+impl<T: Drop> From<AllocFailed<T>> for LineError {
+    ghost use Rattle.book_files.specs.declared.fault.LineError.TheVariants.{Memory};
+
+    ghost from_gives = { λ _ e. e ≡ Memory };
+
+    fn from(_: AllocFailed<T>) -> LineError {
+        LineError::Memory
+    }
 }
 
 /// Why a file gave no records.
@@ -49,4 +92,14 @@ impl<T: Drop> From<AllocFailed<T>> for ReadError {
     fn from(_: AllocFailed<T>) -> ReadError {
         ReadError::Memory
     }
+}
+
+/// The fault that is seen at the end of a text.
+pub fn fault_at_end(text: &[u8], kind: TextKind) -> ReadError
+    ensures { result ≡ ReadError.Fault (record { line = end_line text.now; kind = kind }) }
+{
+    ReadError::Fault(TextFault {
+        line: count_lines(text) + 1,
+        kind,
+    })
 }

@@ -16,7 +16,9 @@ mod nodes;
 mod orient;
 mod places;
 mod records;
+mod walk;
 mod weights;
+mod words;
 
 pub use aux::read_aux;
 pub use fault::{ReadError, TextFault, TextKind};

@@ -5,3 +5,9 @@ pub mod TextLines
 pub mod NextWord
 pub mod NextLine
 pub mod Digits
+pub mod Powers
+pub mod NumberWords
+pub mod Reading
+pub mod MicroValue
+pub mod Exponents
+pub mod Kept

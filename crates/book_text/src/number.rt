@@ -13,7 +13,7 @@ pub enum NumberFault {
 }
 
 /// The most bytes of a number word.
-const MOST_DIGITS: usize = 30;
+pub(crate) const MOST_BYTES: usize = 30;
 
 /// The greatest value of a whole word.
 const MOST_WHOLE: u64 = 1 << 40;
@@ -22,7 +22,7 @@ const MOST_WHOLE: u64 = 1 << 40;
 pub fn read_whole(word: &[u8]) -> Result<u64, NumberFault>
     ensures { result ≡ whole_value word.now }
 {
-    if word.is_empty() || word.len() > MOST_DIGITS {
+    if word.is_empty() || word.len() > MOST_BYTES {
         return Err(NumberFault::NotNumber);
     }
     let mut value: u64 = 0;
