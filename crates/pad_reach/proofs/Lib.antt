@@ -1,2 +1,4 @@
+mod Chains
 mod Placing
+mod Searching
 mod Told

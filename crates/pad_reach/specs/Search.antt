@@ -46,3 +46,4 @@ pub record IsSearch (web : List Joint) (limit : ℕ) (found : List (Option Entry
   pub queued : (j : ℕ) → j < length queue → IsReached found (slice_index queue j)
   pub closed : (p q : ℕ) → p < length web → IsNeighbour web p q → IsReached found q → IsReached found p ⊎ IsWaiting queue next q
   pub counted : length queue + unreached found ≡ length web
+  pub within : next ≤ length queue
