@@ -1,7 +1,7 @@
 -- The entries of a web put in their places, one after another.
-use Rattle.std.proofs.Common.{◌≡◌, ◌≢◌, ℕ, ◌+◌, ◌-◌, ◌<◌, ◌≤◌, ◌⊎◌, inl, inr, List, length, get_or, slice_index, take, set, sum, refl, sym, ap, ◌∙◌, subst, arith}
+use Rattle.std.proofs.Common.{◌≡◌, ◌≢◌, ℕ, ◌+◌, ◌-◌, ◌<◌, ◌≤◌, ◌⊎◌, inl, inr, List, length, get_or, slice_index, slice_range, take, set, sum, refl, sym, ap, ◌∙◌, subst, arith}
 use Rattle.std.proofs.lemmas.List.{length-set, get_or-set_same, get_or-set_other, get_or_default, take_all}
-use Rattle.std.proofs.lemmas.List.Sums.{sum_by_more_le}
+use Rattle.std.proofs.lemmas.List.Edits.{length-between, get_or-between}
 use Rattle.std.proofs.lemmas.Bool.{cases_eq, cases_lt}
 use Rattle.pad_reach.specs.Chain.{Joint, joint_at, IsNeighbour}
 use Rattle.pad_reach.specs.Tellers.{entries_to, told, told_before, entries, AreEnds, IsEarlier, StandsAt, IsPlaced, IsReversed}
@@ -173,3 +173,24 @@ IsReversed-placed web starts points placed =
         let s = subst Stands same (placed.complete p near.0 (inl hp) near.1) in
         (s.place, s.from, omega (arith, s.to, placed.all, begins (q + 1)), s.is)
     }
+
+-- the points that tell q, one after another
+module _ (web : List Joint) (starts points : List ℕ) (reversed : IsReversed web starts points) (q : ℕ) (there : q < length web) (row : List ℕ) (row_is : row ≡ slice_range points (slice_index starts q) (slice_index starts (q + 1))) where
+  row_length : length row ≡ slice_index starts (q + 1) - slice_index starts q
+  row_length = ap length row_is ∙ length-between points (slice_index starts q) (slice_index starts (q + 1)) (reversed.within q there)
+
+  row_at : (m : ℕ) → m < length row → get_or row m 0 ≡ slice_index points (slice_index starts q + m)
+  row_at m h = ap (λ (xs : List ℕ). get_or xs m 0) row_is ∙ get_or-between points (slice_index starts q) (slice_index starts (q + 1)) m 0 (omega (arith, row_length))
+
+  pub row_sound : (m : ℕ) → m < length row → (get_or row m 0 < length web) × IsNeighbour web (get_or row m 0) q
+  row_sound m h =
+      let P : ℕ → Type 0 = λ p. (p < length web) × IsNeighbour web p q in
+      subst P (sym (row_at m h)) (reversed.sound q (slice_index starts q + m) there (omega arith) (omega (arith, row_length, reversed.ordered q there)))
+
+  pub row_complete : (p : ℕ) → p < length web → IsNeighbour web p q → (m : ℕ) × (m < length row) × (get_or row m 0 ≡ p)
+  row_complete p hp near =
+      let j = reversed.complete p q hp there near in
+      let m : ℕ = j.0 - slice_index starts q in
+      let inside : m < length row = omega (arith, row_length, j.1, j.2) in
+      let place : slice_index starts q + m ≡ j.0 = omega (arith, j.1) in
+      (m, inside, row_at m inside ∙ ap (slice_index points) place ∙ j.3)

@@ -1,6 +1,6 @@
 -- A search reaches one more point, is done with a point, and ends.
-use Rattle.std.proofs.Common.{◌≡◌, ◌≢◌, ℕ, ◌+◌, ◌<◌, ◌≤◌, ◌⊎◌, inl, inr, Bool, true, false, cond, List, [], ◌∷◌, ◌++◌, length, get_or, slice_index, slice_index_or, set, replicate, Option, Some, None, is_none, IsSome, refl, sym, ap, ◌∙◌, subst, arith}
-use Rattle.std.proofs.lemmas.List.{length-set, length_push, length-replicate, get_or-replicate, get_or-set_same, get_or-set_other, get_or_past, get_or_push, get_or_append_left}
+use Rattle.std.proofs.Common.{◌≡◌, ◌≢◌, ℕ, ◌+◌, ◌<◌, ◌≤◌, ◌⊎◌, inl, inr, Bool, true, false, cond, List, [], ◌∷◌, ◌++◌, length, get_or, slice_index, slice_index_or, set, replicate, Option, Some, None, is_none, is_some, IsSome, refl, sym, ap, ◌∙◌, subst, below_more, arith}
+use Rattle.std.proofs.lemmas.List.{length-set, length_push, length-replicate, get_or-replicate, get_or-set_same, get_or-set_other, get_or_past, get_or_push, get_or_append_left, get_or_read}
 use Rattle.std.proofs.lemmas.List.Sums.{sum_by-set}
 use Rattle.std.proofs.lemmas.List.Folds.{sum_by-replicate}
 use Rattle.std.proofs.lemmas.Bool.{cases_eq, cases_lt}
@@ -129,3 +129,115 @@ IsSettled-end web limit found queue next s whole ended = record {
   anchored = λ p l a. s.anchored p (omega arith) a;
   closed = λ p q hp near hq. elim (s.closed p q hp near hq) [ inl r ↦ r | inr w ↦ absurd (omega (arith, w.1, w.2)) ]
 }
+
+-- what a read of an entry tells
+pub entry_read : (found : List (Option Entry)) (p : ℕ) (o : Option Entry) → p < length found → o ≡ get_or found p o → o ≡ found_at found p
+entry_read found p o there read = get_or_read found p o there read None
+
+pub none_read : (found : List (Option Entry)) (p : ℕ) (o : Option Entry) → p < length found → o ≡ get_or found p o → is_some o ≡ false → found_at found p ≡ None
+none_read found p None there read none = sym (entry_read found p None there read)
+none_read found p (Some e) there read none = absurd cc
+
+pub some_read : (found : List (Option Entry)) (p : ℕ) (o : Option Entry) → p < length found → o ≡ get_or found p o → is_some o ≡ true → IsReached found p
+some_read found p o there read some = ap is_some (sym (entry_read found p o there read)) ∙ some
+
+-- The point `near` of the queue is visited: of those that tell it, the first k are reached.
+pub record IsVisit (web : List Joint) (found : List (Option Entry)) (queue : List ℕ) (next near distance : ℕ) (row : List ℕ) (k : ℕ) : Type 0 where
+  pub search : IsSearch web (length web) found queue next
+  pub more : next < length queue
+  pub waits : get_or queue next 0 ≡ near
+  pub nearer : IsNearer found near distance
+  pub met : (m : ℕ) → m < k → IsReached found (get_or row m 0)
+
+-- the point that the queue has next is reached
+pub next_reached : (web : List Joint) (limit : ℕ) (found : List (Option Entry)) (queue : List ℕ) (next near : ℕ) → IsSearch web limit found queue next → next < length queue → near ≡ get_or queue next near → IsReached found near
+next_reached web limit found queue next near s more read =
+    let P : ℕ → Type 0 = λ p. IsReached found p in
+    subst P (sym (get_or_read queue next near more read 0)) (s.queued next more)
+
+pub next_there : (web : List Joint) (limit : ℕ) (found : List (Option Entry)) (queue : List ℕ) (next near : ℕ) → IsSearch web limit found queue next → next < length queue → near ≡ get_or queue next near → near < length web
+next_there web limit found queue next near s more read =
+    omega (arith, there_if_reached found near (next_reached web limit found queue next near s more read), s.sound.all)
+
+module _ (web : List Joint) (found : List (Option Entry)) (queue : List ℕ) (next near : ℕ) (row : List ℕ) where
+  pub IsVisit-start : IsSearch web (length web) found queue next → next < length queue → near ≡ get_or queue next near → (e : Entry) → found_at found near ≡ Some e → IsVisit web found queue next near (e.distance + 1) row 0
+  IsVisit-start s more read e known = record {
+    search = s;
+    more = more;
+    waits = sym (get_or_read queue next near more read 0);
+    nearer = (e, known, refl);
+    met = λ m h. absurd (omega arith)
+  }
+
+  module _ (distance k : ℕ) (v : IsVisit web found queue next near distance row k) where
+    pub visited_there : near < length web
+    visited_there =
+        let reached : IsReached found near = rw v.nearer.1 refl in
+        omega (arith, there_if_reached found near reached, v.search.sound.all)
+
+    pub IsVisit-skip : IsReached found (get_or row k 0) → IsVisit web found queue next near distance row (k + 1)
+    IsVisit-skip reached = record {
+      search = v.search;
+      more = v.more;
+      waits = v.waits;
+      nearer = v.nearer;
+      met = below_more (λ m. IsReached found (get_or row m 0)) k v.met reached
+    }
+
+    pub IsVisit-add : get_or row k 0 < length web → IsNeighbour web (get_or row k 0) near → found_at found (get_or row k 0) ≡ None → IsVisit web (set found (get_or row k 0) (Some (record { toward = Some near; distance = distance }))) (queue ++ get_or row k 0 ∷ []) next near distance row (k + 1)
+    IsVisit-add there tells free =
+        let far = get_or row k 0 in
+        let e : Entry = record { toward = Some near; distance = distance } in
+        let there' : far < length found = omega (arith, there, v.search.sound.all) in
+        let not_anchored : IsAnchored web far → ⊥ = λ a. (let r = v.search.anchored far there a in cc) in
+        let short = v.search.sound.short near v.nearer.0 v.nearer.1 in
+        record {
+          search = IsSearch-add found far e free there' web (length web) queue next v.search (not_anchored, tells, v.nearer) (omega (arith, short, v.nearer.2));
+          more = omega (arith, v.more, length_push queue far);
+          waits = get_or_append_left queue (far ∷ []) 0 next v.more ∙ v.waits;
+          nearer = (v.nearer.0, found_at-kept found far e free there' near v.nearer.0 v.nearer.1, v.nearer.2);
+          met = below_more (λ m. IsReached (set found far (Some e)) (get_or row m 0)) k (λ m h. IsReached-kept found far e free there' (get_or row m 0) (v.met m h)) (IsReached-new found far e free there')
+        }
+
+    pub IsVisit-added : get_or row k 0 < length web → IsNeighbour web (get_or row k 0) near → found_at found (get_or row k 0) ≡ None → (found' : List (Option Entry)) (queue' : List ℕ) → found' ≡ set found (get_or row k 0) (Some (record { toward = Some near; distance = distance })) → queue' ≡ queue ++ get_or row k 0 ∷ [] → IsVisit web found' queue' next near distance row (k + 1)
+    IsVisit-added there tells free found' queue' found_is queue_is =
+        let P : List (Option Entry) → Type 0 = λ f. IsVisit web f (queue ++ get_or row k 0 ∷ []) next near distance row (k + 1) in
+        let Q : List ℕ → Type 0 = λ q. IsVisit web found' q next near distance row (k + 1) in
+        subst Q (sym queue_is) (subst P (sym found_is) (IsVisit-add there tells free))
+
+    -- once all who tell the point are reached, it is done
+    pub IsVisit-end : length row ≤ k → ((p : ℕ) → p < length web → IsNeighbour web p near → (m : ℕ) × (m < length row) × (get_or row m 0 ≡ p)) → IsSearch web (length web) found queue (next + 1)
+    IsVisit-end whole complete =
+        let P : ℕ → Type 0 = λ p. IsReached found p in
+        IsSearch-next web (length web) found queue next v.search v.more (λ p hp tells.
+          let Q : ℕ → Type 0 = λ q. IsNeighbour web p q in
+          let m = complete p hp (subst Q v.waits tells) in
+          subst P m.2 (v.met m.0 (omega (arith, m.1))))
+
+-- The anchored points before i are reached, and no point from i on.
+pub record IsBegun (web : List Joint) (i : ℕ) (found : List (Option Entry)) (queue : List ℕ) : Type 0 where
+  pub search : IsSearch web i found queue 0
+  pub fresh : (p : ℕ) → i ≤ p → found_at found p ≡ None
+
+pub IsBegun-start : (web : List Joint) (found : List (Option Entry)) (queue : List ℕ) → found ≡ replicate (length web) None → queue ≡ [] → IsBegun web 0 found queue
+IsBegun-start web found queue found_is queue_is =
+    let P : List (Option Entry) → Type 0 = λ f. IsBegun web 0 f queue in
+    let Q : List ℕ → Type 0 = λ q. IsBegun web 0 (replicate (length web) None) q in
+    subst P (sym found_is) (subst Q (sym queue_is) (record { search = IsSearch-start web; fresh = λ p _. found_at-none (length web) p }))
+
+module _ (web : List Joint) (i : ℕ) (found : List (Option Entry)) (queue : List ℕ) (b : IsBegun web i found queue) where
+  pub IsBegun-skip : (IsAnchored web i → ⊥) → IsBegun web (i + 1) found queue
+  IsBegun-skip loose = record { search = IsSearch-limit web i found queue 0 b.search (λ a. absurd (loose a)); fresh = λ p h. b.fresh p (omega arith) }
+
+  pub IsBegun-added : i < length web → IsAnchored web i → (found' : List (Option Entry)) (queue' : List ℕ) → found' ≡ set found i (Some (record { toward = None; distance = 0 })) → queue' ≡ queue ++ i ∷ [] → IsBegun web (i + 1) found' queue'
+  IsBegun-added there a found' queue' found_is queue_is =
+      let e : Entry = record { toward = None; distance = 0 } in
+      let there' : i < length found = omega (arith, there, b.search.sound.all) in
+      let free = b.fresh i (omega arith) in
+      let P : List (Option Entry) → Type 0 = λ f. IsBegun web (i + 1) f (queue ++ i ∷ []) in
+      let Q : List ℕ → Type 0 = λ q. IsBegun web (i + 1) found' q in
+      let added = IsSearch-add found i e free there' web i queue 0 b.search (a, refl) (omega (arith, b.search.counted)) in
+      subst Q (sym queue_is) (subst P (sym found_is) (record {
+        search = IsSearch-limit web i (set found i (Some e)) (queue ++ i ∷ []) 0 added (λ _. IsReached-new found i e free there');
+        fresh = λ p h. let n : p ≢ i = omega arith in get_or-set_other found i p (Some e) None n ∙ b.fresh p (omega arith)
+      }))

@@ -1,7 +1,8 @@
-ghost use Rattle.std.specs.Prelude.{ℕ, ◌<◌, length, IfOk, MatchResult};
+ghost use Rattle.std.specs.Prelude.{◌≡◌, ℕ, ◌<◌, ◌≤◌, [], ◌∷◌, ◌++◌, length, slice_set, vec_len, OnOk, IfOk, MatchResult};
 ghost use Rattle.pad_reach.specs.Chain.{HasChain};
 ghost use Rattle.pad_reach.specs.Reaches.{Reaches};
 ghost use Rattle.pad_reach.specs.Refusal.{IsRefusal};
+ghost use Rattle.pad_reach.specs.Search.{IsSettled, IsSearch};
 
 use crate::steps::{Entry, Reach};
 use crate::tellers::Tellers;
@@ -48,7 +49,9 @@ pub fn reach<W: Web>(alloc: Global, web: &W) -> Result<Reach, ReachError>
 }
 
 /// What is known of each point that a chain leads from, found breadth-first from the anchored points.
-fn spread<W: Web>(alloc: Global, web: &W) -> Result<Vec<Option<Entry>>, AllocError> {
+fn spread<W: Web>(alloc: Global, web: &W) -> Result<Vec<Option<Entry>>, AllocError>
+    ensures { IfOk result (λ found. IsSettled (W.joints web.now) found.items) }
+{
     let tellers = Tellers::new(alloc, web)?;
     let mut search = Search::new(alloc, web)?;
     let mut next = 0;
@@ -74,7 +77,16 @@ struct Search {
 
 impl Search {
     /// Reaches the anchored points.
-    fn new<W: Web>(alloc: Global, web: &W) -> Result<Search, AllocError> {
+    fn new<W: Web>(alloc: Global, web: &W) -> Result<Search, AllocError>
+        ensures search { IfOk result
+            (λ search. IsSearch
+                (W.joints web.now)
+                (length (W.joints web.now))
+                search.found.items
+                search.queue.items
+                0) }
+        ensures few { length (W.joints web.now) ≤ 2097152 }
+    {
         let found = vec![in alloc; None; web.points()]?;
         let queue = Vec::with_capacity(alloc, web.points())?;
         let mut search = Search { found, queue };
@@ -87,7 +99,12 @@ impl Search {
     }
 
     /// Reaches a point.
-    fn add(&mut self, point: u32, entry: Entry) -> Result<(), AllocError> {
+    fn add(&mut self, point: u32, entry: Entry) -> Result<(), AllocError>
+        requires { point < vec_len self.old.found }
+        ensures found { OnOk result
+            (self.new.found.items ≡ slice_set self.old.found.items point (Some entry)) }
+        ensures queue { OnOk result (self.new.queue.items ≡ self.old.queue.items ++ point ∷ []) }
+    {
         self.queue.push(point)?;
         self.found[point as usize] = Some(entry);
         Ok(())
