@@ -1,6 +1,6 @@
 -- A chain leads from exactly the points that a settled search has reached.
 use Rattle.std.proofs.Common.{◌≡◌, ℕ, zero, suc, ◌+◌, ◌<◌, ◌≤◌, inl, inr, IsTrue, List, [], ◌∷◌, length, map, get_or, take, Option, Some, None, IsSome, refl, sym, ap, ◌∙◌, subst, arith}
-use Rattle.std.proofs.lemmas.List.{length-map, get_or-map, get_or_past}
+use Rattle.std.proofs.lemmas.List.{length-map, length-take-le, get_or-map, get_or-take, get_or_past}
 use Rattle.std.proofs.lemmas.Bool.{cases_lt}
 use Rattle.pad_reach.specs.Chain.{Joint, no_joint, joint_at, IsNeighbour, IsAnchored, IsChain, HasChain}
 use Rattle.pad_reach.specs.Reaches.{Step, no_step, step_at, LeadsOn, Reaches, IsFirstUnanchored}
@@ -46,6 +46,15 @@ IsFirstUnanchored-found web found s p there free before = record {
   none = λ chain. let reached = reached_by web found s p chain.0 chain.1 in cc;
   before = λ q l. HasChain-reached web found s.sound q (before q l)
 }
+
+-- the points before i are reached if there is an entry for each
+pub reached_before : (found : List (Option Entry)) (entries : List Entry) (i : ℕ) → map Some entries ≡ take i found → i ≤ length found → (q : ℕ) → q < i → IsReached found q
+reached_before found entries i some inside q h =
+    let count : length entries ≡ i = sym (length-map entries Some) ∙ ap length some ∙ length-take-le i found inside in
+    let at = λ (xs : List (Option Entry)). found_at xs q in
+    let e = get_or entries q (record { toward = None; distance = 0 }) in
+    let known : found_at found q ≡ Some e = sym (get_or-take i found q None h) ∙ sym (ap at some) ∙ get_or-map Some entries q (record { toward = None; distance = 0 }) None (omega arith) in
+    rw known refl
 
 -- a step is what is known of its point
 abbrev step_of : Entry → Step

@@ -2,6 +2,7 @@ ghost use Rattle.std.specs.Prelude.{◌≡◌, ℕ, ◌<◌, ◌≤◌, [], ◌�
 ghost use Rattle.pad_reach.specs.Chain.{HasChain};
 ghost use Rattle.pad_reach.specs.Reaches.{Reaches};
 ghost use Rattle.pad_reach.specs.Refusal.{IsRefusal};
+ghost use Rattle.pad_reach.specs.declared.search.ReachError.TheVariants.{Memory};
 ghost use Rattle.pad_reach.specs.Search.{IsSettled, IsSearch};
 
 use crate::steps::{Entry, Reach};
@@ -19,12 +20,16 @@ pub enum ReachError {
 }
 
 impl From<AllocError> for ReachError {
+    ghost from_gives = { λ _ e. e ≡ Memory };
+
     fn from(_error: AllocError) -> ReachError {
         ReachError::Memory
     }
 }
 
 impl<T: Drop> From<AllocFailed<T>> for ReachError {
+    ghost from_gives = { λ _ e. e ≡ Memory };
+
     fn from(_error: AllocFailed<T>) -> ReachError {
         ReachError::Memory
     }
@@ -38,7 +43,7 @@ pub fn reach<W: Web>(alloc: Global, web: &W) -> Result<Reach, ReachError>
     ensures chains { IfOk result (λ _. (p : ℕ) → p < length (W.joints web.now) → HasChain (W.joints web.now) p) }
 {
     let found = spread(alloc, web)?;
-    let mut entries = Vec::with_capacity(alloc, found.len())?;
+    let mut entries = Vec::with_capacity(alloc, web.points())?;
     for (i, entry) in found.iter().enumerate() {
         match entry {
             Some(entry) => entries.push(*entry)?,
