@@ -44,7 +44,7 @@ pub IsFirstUnanchored-found : (web : List Joint) (found : List (Option Entry)) �
 IsFirstUnanchored-found web found s p there free before = record {
   there = there;
   none = λ chain. let reached = reached_by web found s p chain.0 chain.1 in cc;
-  before = λ q l. HasChain-reached web found s.sound q (before q l)
+  before = λ q l. HasChain-reached web found s.sound q (before q l);
 }
 
 -- the points before i are reached if there is an entry for each
@@ -88,5 +88,5 @@ module _ (web : List Joint) (found : List (Option Entry)) (s : IsSettled web fou
   pub Reaches-found : Reaches web (map step_of entries)
   Reaches-found = record {
     all = length-map entries step_of ∙ length_entries;
-    each = λ p h. let P : Step → Type 0 = λ step. LeadsOn web (map step_of entries) p step.toward step.distance in subst P (sym (step_entry p h)) (LeadsOn-found p _ _ (s.sound.each p _ (found_entry p h)))
+    each = λ p h. let P : Step → Type 0 = λ step. LeadsOn web (map step_of entries) p step.toward step.distance in subst P (sym (step_entry p h)) (LeadsOn-found p _ _ (s.sound.each p _ (found_entry p h)));
   }

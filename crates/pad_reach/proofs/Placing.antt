@@ -14,7 +14,7 @@ IsPlaced-start web starts points ends room = record {
   room = omega (arith, told_before-le-entries (length web + 1) web);
   left = λ q h. omega (arith, ends.each q h, told-none q web, entries_to-none q (joint_at web 0).near);
   sound = λ q j h from to. absurd (omega (arith, ends.each q (omega (arith, ends.all))));
-  complete = λ p m earlier h. absurd (elim earlier [ inl l ↦ omega arith | inr r ↦ omega (arith, r.0, r.1) ])
+  complete = λ p m earlier h. absurd (elim earlier [ inl l ↦ omega arith | inr r ↦ omega (arith, r.0, r.1) ]);
 }
 
 -- the places of the points that tell q are apart from those of the others
@@ -28,8 +28,10 @@ module _ (web : List Joint) (i k : ℕ) (starts points : List ℕ) (placed : IsP
 
   pub apart : (q r j : ℕ) → q < length web → r < length web → told_before q web ≤ j → j < told_before (q + 1) web → told_before r web ≤ j → j < told_before (r + 1) web → q ≡ r
   apart q r j hq hr a b c d =
-      elim (cases_eq q r) [ inl e ↦ e
-      | inr n ↦ absurd (elim (cases_lt q r) [ inl l ↦ omega (arith, told_before-mono web (q + 1) r (omega arith)) | inr g ↦ omega (arith, told_before-mono web (r + 1) q (omega arith)) ]) ]
+      elim (cases_eq q r) [
+        | inl e ↦ e
+        | inr n ↦ absurd (elim (cases_lt q r) [ inl l ↦ omega (arith, told_before-mono web (q + 1) r (omega arith)) | inr g ↦ omega (arith, told_before-mono web (r + 1) q (omega arith)) ])
+      ]
 
   module _ (in_row : k < length (joint_at web i).near) (t : ℕ) (is_t : slice_index (joint_at web i).near k ≡ t) (t_there : t < length web) where
     -- the place of the entry k is the last free one of its neighbour
@@ -99,7 +101,7 @@ module _ (web : List Joint) (i k : ℕ) (starts points : List ℕ) (placed : IsP
       place = s.place;
       from = omega (arith, s.from, starts'-le q);
       to = s.to;
-      is = points'-other s.place (not_slot q s.place s.there s.from s.to) ∙ s.is
+      is = points'-other s.place (not_slot q s.place s.there s.from s.to) ∙ s.is;
     }
 
     stands : StandsAt web starts' points' i t
@@ -108,7 +110,7 @@ module _ (web : List Joint) (i k : ℕ) (starts points : List ℕ) (placed : IsP
       place = slice_index starts t - 1;
       from = omega (arith, starts'-same);
       to = slot-below;
-      is = points'-same
+      is = points'-same;
     }
 
     -- the one who stands at the place j tells q
@@ -119,24 +121,32 @@ module _ (web : List Joint) (i k : ℕ) (starts points : List ℕ) (placed : IsP
     unfolding Tells
     sound'-same j from to =
         let P : ℕ → Type 0 = λ p. (p < length web) × IsNeighbour web p t in
-        elim (cases_eq j (slice_index starts t - 1)) [ inl e ↦ subst P (sym (ap (slice_index points') e ∙ points'-same)) (there, (k, in_row, get_or_default (joint_at web i).near k t 0 in_row ∙ is_t))
-        | inr n ↦ subst P (sym (points'-other j n)) (placed.sound t j t_there (omega (arith, starts'-same)) to) ]
+        elim (cases_eq j (slice_index starts t - 1)) [
+          | inl e ↦ subst P (sym (ap (slice_index points') e ∙ points'-same)) (there, (k, in_row, get_or_default (joint_at web i).near k t 0 in_row ∙ is_t))
+          | inr n ↦ subst P (sym (points'-other j n)) (placed.sound t j t_there (omega (arith, starts'-same)) to)
+        ]
 
     sound' : (q j : ℕ) → q < length web → slice_index starts' q ≤ j → j < told_before (q + 1) web → (slice_index points' j < length web) × IsNeighbour web (slice_index points' j) q
     unfolding Tells
     sound' q j h from to =
         let P : ℕ → Type 0 = λ x. slice_index starts' x ≤ j → j < told_before (x + 1) web → Tells points' j x in
         let Q : ℕ → Type 0 = λ p. (p < length web) × IsNeighbour web p q in
-        elim (cases_eq q t) [ inl e ↦ subst P (sym e) (sound'-same j) from to
-        | inr n ↦ let late : slice_index starts q ≤ j = omega (arith, starts'-other q n) in subst Q (sym (points'-other j (not_slot q j h late to))) (placed.sound q j h late to) ]
+        elim (cases_eq q t) [
+          | inl e ↦ subst P (sym e) (sound'-same j) from to
+          | inr n ↦ let late : slice_index starts q ≤ j = omega (arith, starts'-other q n) in subst Q (sym (points'-other j (not_slot q j h late to))) (placed.sound q j h late to)
+        ]
 
     complete' : (p m : ℕ) → IsEarlier p m i (k + 1) → m < length (joint_at web p).near → StandsAt web starts' points' p (slice_index (joint_at web p).near m)
     complete' p m earlier h =
         let P : ℕ → Type 0 = λ x. StandsAt web starts' points' x (slice_index (joint_at web x).near m) in
         let Q : ℕ → Type 0 = λ x. StandsAt web starts' points' i (slice_index (joint_at web i).near x) in
-        elim earlier [ inl l ↦ stays _ _ (placed.complete p m (inl l) h)
-        | inr r ↦ elim (cases_eq m k) [ inl e ↦ subst P (sym r.0) (subst Q (sym e) (subst (λ x. StandsAt web starts' points' i x) (sym is_t) stands))
-          | inr n ↦ stays _ _ (placed.complete p m (inr (r.0, omega (arith, r.1))) h) ] ]
+        elim earlier [
+          | inl l ↦ stays _ _ (placed.complete p m (inl l) h)
+          | inr r ↦ elim (cases_eq m k) [
+            | inl e ↦ subst P (sym r.0) (subst Q (sym e) (subst (λ x. StandsAt web starts' points' i x) (sym is_t) stands))
+            | inr n ↦ stays _ _ (placed.complete p m (inr (r.0, omega (arith, r.1))) h)
+          ]
+        ]
 
     pub IsPlaced-step : IsPlaced web i (k + 1) (set starts t (slice_index starts t - 1)) (set points (slice_index starts t - 1) i)
     unfolding starts' points'
@@ -145,7 +155,7 @@ module _ (web : List Joint) (i k : ℕ) (starts points : List ℕ) (placed : IsP
       room = omega (arith, placed.room, length-set points (slice_index starts t - 1) i);
       left = λ q h. left' q (omega (arith, length-set starts t (slice_index starts t - 1)));
       sound = sound';
-      complete = complete'
+      complete = complete';
     }
 
 -- a joint whose entries are all placed
@@ -155,7 +165,7 @@ IsPlaced-row web i k starts points there whole placed = record {
   room = placed.room;
   left = λ q h. let left = placed.left q h in let row = ap (entries_to q) (take_all k (joint_at web i).near whole) in omega (arith, told-more q web i there, entries_to-none q (joint_at web i).near);
   sound = placed.sound;
-  complete = λ p m earlier h. placed.complete p m (elim earlier [ inl l ↦ elim (cases_eq p i) [ inl e ↦ inr (e, (let P : ℕ → Type 0 = λ x. m < length (joint_at web x).near in let short = subst P e h in omega arith)) | inr n ↦ inl (omega arith) ] | inr r ↦ absurd (omega (arith, r.1)) ]) h
+  complete = λ p m earlier h. placed.complete p m (elim earlier [ inl l ↦ elim (cases_eq p i) [ inl e ↦ inr (e, (let P : ℕ → Type 0 = λ x. m < length (joint_at web x).near in let short = subst P e h in omega arith)) | inr n ↦ inl (omega arith) ] | inr r ↦ absurd (omega (arith, r.1)) ]) h;
 }
 
 -- once all are placed, the places of each point lie from its start up to the next one
@@ -168,10 +178,10 @@ IsReversed-placed web starts points placed =
       within = λ q h. omega (arith, placed.all, begins (q + 1), placed.room, told_before-mono web (q + 1) (length web + 1) (omega arith));
       sound = λ q j h from to. placed.sound q j h from (omega (arith, placed.all, begins (q + 1)));
       complete = λ p q hp hq near.
-        let same : slice_index (joint_at web p).near near.0 ≡ q = get_or_default (joint_at web p).near near.0 0 q near.1 ∙ near.2 in
-        let Stands : ℕ → Type 0 = λ x. StandsAt web starts points p x in
-        let s = subst Stands same (placed.complete p near.0 (inl hp) near.1) in
-        (s.place, s.from, omega (arith, s.to, placed.all, begins (q + 1)), s.is)
+          let same : slice_index (joint_at web p).near near.0 ≡ q = get_or_default (joint_at web p).near near.0 0 q near.1 ∙ near.2 in
+          let Stands : ℕ → Type 0 = λ x. StandsAt web starts points p x in
+          let s = subst Stands same (placed.complete p near.0 (inl hp) near.1) in
+          (s.place, s.from, omega (arith, s.to, placed.all, begins (q + 1)), s.is);
     }
 
 -- the points that tell q, one after another

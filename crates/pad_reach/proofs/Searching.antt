@@ -29,8 +29,10 @@ module _ (found : List (Option Entry)) (far : ℕ) (e : Entry) (free : found_at 
 
   found_at-new : (p : ℕ) (x : Entry) → found_at (set found far (Some e)) p ≡ Some x → ((far ≡ p) × (e ≡ x)) ⊎ (found_at found p ≡ Some x)
   found_at-new p x h =
-      elim (cases_eq p far) [ inl s ↦ inl (sym s, (let new = get_or-set_same found far (Some e) None there in let same = ap (found_at (set found far (Some e))) s in cc))
-      | inr n ↦ inr (sym (get_or-set_other found far p (Some e) None n) ∙ h) ]
+      elim (cases_eq p far) [
+        | inl s ↦ inl (sym s, (let new = get_or-set_same found far (Some e) None there in let same = ap (found_at (set found far (Some e))) s in cc))
+        | inr n ↦ inr (sym (get_or-set_other found far p (Some e) None n) ∙ h)
+      ]
 
   pub IsReached-kept : (q : ℕ) → IsReached found q → IsReached (set found far (Some e)) q
   IsReached-kept q h =
@@ -50,12 +52,12 @@ module _ (found : List (Option Entry)) (far : ℕ) (e : Entry) (free : found_at 
   IsSound-add web sound by short = record {
     all = length-set found far (Some e) ∙ sound.all;
     each = λ p x h.
-      let P : ℕ → Type 0 = λ q. IsFoundBy web (set found far (Some e)) q x.toward x.distance in
-      let Q : Entry → Type 0 = λ y. IsFoundBy web (set found far (Some e)) far y.toward y.distance in
-      elim (found_at-new p x h) [ inl s ↦ subst P s.0 (subst Q s.1 (IsFoundBy-kept web far e.toward e.distance by)) | inr s ↦ IsFoundBy-kept web p x.toward x.distance (sound.each p x s) ];
+        let P : ℕ → Type 0 = λ q. IsFoundBy web (set found far (Some e)) q x.toward x.distance in
+        let Q : Entry → Type 0 = λ y. IsFoundBy web (set found far (Some e)) far y.toward y.distance in
+        elim (found_at-new p x h) [ inl s ↦ subst P s.0 (subst Q s.1 (IsFoundBy-kept web far e.toward e.distance by)) | inr s ↦ IsFoundBy-kept web p x.toward x.distance (sound.each p x s) ];
     short = λ p x h.
-      let distance : Entry → ℕ = λ y. y.distance in
-      elim (found_at-new p x h) [ inl s ↦ omega (arith, unreached-set, ap distance s.1) | inr s ↦ omega (arith, unreached-set, sound.short p x s) ]
+        let distance : Entry → ℕ = λ y. y.distance in
+        elim (found_at-new p x h) [ inl s ↦ omega (arith, unreached-set, ap distance s.1) | inr s ↦ omega (arith, unreached-set, sound.short p x s) ];
   }
 
   pub IsSearch-add : (web : List Joint) (limit : ℕ) (queue : List ℕ) (next : ℕ) → IsSearch web limit found queue next → IsFoundBy web found far e.toward e.distance → e.distance + unreached found ≤ length web → IsSearch web limit (set found far (Some e)) (queue ++ far ∷ []) next
@@ -65,14 +67,18 @@ module _ (found : List (Option Entry)) (far : ℕ) (e : Entry) (free : found_at 
         sound = IsSound-add web s.sound by short;
         anchored = λ p l a. IsReached-kept p (s.anchored p l a);
         queued = λ j h.
-          let P : ℕ → Type 0 = λ q. IsReached (set found far (Some e)) q in
-          elim (cases_lt j (length queue)) [ inl l ↦ subst P (sym (get_or_append_left queue (far ∷ []) 0 j l)) (IsReached-kept _ (s.queued j l)) | inr g ↦ subst P (sym (get_or_push queue far 0 j (omega arith))) IsReached-new ];
+            let P : ℕ → Type 0 = λ q. IsReached (set found far (Some e)) q in
+            elim (cases_lt j (length queue)) [ inl l ↦ subst P (sym (get_or_append_left queue (far ∷ []) 0 j l)) (IsReached-kept _ (s.queued j l)) | inr g ↦ subst P (sym (get_or_push queue far 0 j (omega arith))) IsReached-new ];
         closed = λ p q hp near hq.
-          elim (IsReached-cases q hq) [ inl e' ↦ inr (length queue, s.within, omega arith, get_or_push queue far 0 (length queue) refl ∙ sym e')
-          | inr old ↦ elim (s.closed p q hp near old) [ inl done ↦ inl (IsReached-kept p done)
-            | inr w ↦ inr (w.0, w.1, omega (arith, w.2), get_or_append_left queue (far ∷ []) 0 w.0 w.2 ∙ w.3) ] ];
+            elim (IsReached-cases q hq) [
+              | inl e' ↦ inr (length queue, s.within, omega arith, get_or_push queue far 0 (length queue) refl ∙ sym e')
+              | inr old ↦ elim (s.closed p q hp near old) [
+                | inl done ↦ inl (IsReached-kept p done)
+                | inr w ↦ inr (w.0, w.1, omega (arith, w.2), get_or_append_left queue (far ∷ []) 0 w.0 w.2 ∙ w.3)
+              ]
+            ];
         counted = omega (arith, s.counted, unreached-set);
-        within = omega (arith, s.within)
+        within = omega (arith, s.within);
       }
 
 -- a point is done once all who tell it are reached
@@ -82,11 +88,13 @@ IsSearch-next web limit found queue next s there done = record {
   anchored = s.anchored;
   queued = s.queued;
   closed = λ p q hp near hq.
-    let P : ℕ → Type 0 = λ x. IsNeighbour web p x in
-    elim (s.closed p q hp near hq) [ inl r ↦ inl r
-    | inr w ↦ elim (cases_eq w.0 next) [ inl e ↦ inl (done p hp (subst P (sym (sym (ap (slice_index queue) e) ∙ w.3)) near)) | inr n ↦ inr (w.0, omega (arith, w.1), w.2, w.3) ] ];
+      let P : ℕ → Type 0 = λ x. IsNeighbour web p x in
+      elim (s.closed p q hp near hq) [
+        | inl r ↦ inl r
+        | inr w ↦ elim (cases_eq w.0 next) [ inl e ↦ inl (done p hp (subst P (sym (sym (ap (slice_index queue) e) ∙ w.3)) near)) | inr n ↦ inr (w.0, omega (arith, w.1), w.2, w.3) ]
+      ];
   counted = s.counted;
-  within = omega arith
+  within = omega arith;
 }
 
 -- one point more is reached, if it is anchored
@@ -97,7 +105,7 @@ IsSearch-limit web i found queue next s here = record {
   queued = s.queued;
   closed = s.closed;
   counted = s.counted;
-  within = s.within
+  within = s.within;
 }
 
 -- in the beginning no point is reached
@@ -113,13 +121,13 @@ IsSearch-start web = record {
   sound = record {
     all = length-replicate (length web) None;
     each = λ p e h. absurd (let none = found_at-none (length web) p in cc);
-    short = λ p e h. absurd (let none = found_at-none (length web) p in cc)
+    short = λ p e h. absurd (let none = found_at-none (length web) p in cc);
   };
   anchored = λ p l a. absurd (omega arith);
   queued = λ j h. absurd (omega arith);
   closed = λ p q hp near hq. absurd (let none = found_at-none (length web) q in cc);
   counted = omega (arith, unreached-none (length web));
-  within = omega arith
+  within = omega arith;
 }
 
 -- the search ends when no point waits
@@ -127,7 +135,7 @@ pub IsSettled-end : (web : List Joint) (limit : ℕ) (found : List (Option Entry
 IsSettled-end web limit found queue next s whole ended = record {
   sound = s.sound;
   anchored = λ p l a. s.anchored p (omega arith) a;
-  closed = λ p q hp near hq. elim (s.closed p q hp near hq) [ inl r ↦ r | inr w ↦ absurd (omega (arith, w.1, w.2)) ]
+  closed = λ p q hp near hq. elim (s.closed p q hp near hq) [ inl r ↦ r | inr w ↦ absurd (omega (arith, w.1, w.2)) ];
 }
 
 -- what a read of an entry tells
@@ -166,7 +174,7 @@ module _ (web : List Joint) (found : List (Option Entry)) (queue : List ℕ) (ne
     more = more;
     waits = sym (get_or_read queue next near more read 0);
     nearer = (e, known, refl);
-    met = λ m h. absurd (omega arith)
+    met = λ m h. absurd (omega arith);
   }
 
   module _ (distance k : ℕ) (v : IsVisit web found queue next near distance row k) where
@@ -181,7 +189,7 @@ module _ (web : List Joint) (found : List (Option Entry)) (queue : List ℕ) (ne
       more = v.more;
       waits = v.waits;
       nearer = v.nearer;
-      met = below_more (λ m. IsReached found (get_or row m 0)) k v.met reached
+      met = below_more (λ m. IsReached found (get_or row m 0)) k v.met reached;
     }
 
     pub IsVisit-add : get_or row k 0 < length web → IsNeighbour web (get_or row k 0) near → found_at found (get_or row k 0) ≡ None → IsVisit web (set found (get_or row k 0) (Some (record { toward = Some near; distance = distance }))) (queue ++ get_or row k 0 ∷ []) next near distance row (k + 1)
@@ -196,7 +204,7 @@ module _ (web : List Joint) (found : List (Option Entry)) (queue : List ℕ) (ne
           more = omega (arith, v.more, length_push queue far);
           waits = get_or_append_left queue (far ∷ []) 0 next v.more ∙ v.waits;
           nearer = (v.nearer.0, found_at-kept found far e free there' near v.nearer.0 v.nearer.1, v.nearer.2);
-          met = below_more (λ m. IsReached (set found far (Some e)) (get_or row m 0)) k (λ m h. IsReached-kept found far e free there' (get_or row m 0) (v.met m h)) (IsReached-new found far e free there')
+          met = below_more (λ m. IsReached (set found far (Some e)) (get_or row m 0)) k (λ m h. IsReached-kept found far e free there' (get_or row m 0) (v.met m h)) (IsReached-new found far e free there');
         }
 
     pub IsVisit-added : get_or row k 0 < length web → IsNeighbour web (get_or row k 0) near → found_at found (get_or row k 0) ≡ None → (found' : List (Option Entry)) (queue' : List ℕ) → found' ≡ set found (get_or row k 0) (Some (record { toward = Some near; distance = distance })) → queue' ≡ queue ++ get_or row k 0 ∷ [] → IsVisit web found' queue' next near distance row (k + 1)
@@ -210,9 +218,9 @@ module _ (web : List Joint) (found : List (Option Entry)) (queue : List ℕ) (ne
     IsVisit-end whole complete =
         let P : ℕ → Type 0 = λ p. IsReached found p in
         IsSearch-next web (length web) found queue next v.search v.more (λ p hp tells.
-          let Q : ℕ → Type 0 = λ q. IsNeighbour web p q in
-          let m = complete p hp (subst Q v.waits tells) in
-          subst P m.2 (v.met m.0 (omega (arith, m.1))))
+        let Q : ℕ → Type 0 = λ q. IsNeighbour web p q in
+        let m = complete p hp (subst Q v.waits tells) in
+        subst P m.2 (v.met m.0 (omega (arith, m.1))))
 
 -- The anchored points before i are reached, and no point from i on.
 pub record IsBegun (web : List Joint) (i : ℕ) (found : List (Option Entry)) (queue : List ℕ) : Type 0 where
@@ -239,5 +247,5 @@ module _ (web : List Joint) (i : ℕ) (found : List (Option Entry)) (queue : Lis
       let added = IsSearch-add found i e free there' web i queue 0 b.search (a, refl) (omega (arith, b.search.counted)) in
       subst Q (sym queue_is) (subst P (sym found_is) (record {
         search = IsSearch-limit web i (set found i (Some e)) (queue ++ i ∷ []) 0 added (λ _. IsReached-new found i e free there');
-        fresh = λ p h. let n : p ≢ i = omega arith in get_or-set_other found i p (Some e) None n ∙ b.fresh p (omega arith)
+        fresh = λ p h. let n : p ≢ i = omega arith in get_or-set_other found i p (Some e) None n ∙ b.fresh p (omega arith);
       }))

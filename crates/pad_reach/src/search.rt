@@ -65,7 +65,13 @@ fn spread<W: Web>(alloc: Global, web: &W) -> Result<Vec<Option<Entry>>, AllocErr
         let distance = search.found[near as usize].unwrap().distance + 1;
         for far in tellers.of(near as usize) {
             if search.found[*far as usize].is_none() {
-                search.add(*far, Entry { toward: Some(near), distance })?;
+                search.add(
+                    *far,
+                    Entry {
+                        toward: Some(near),
+                        distance,
+                    },
+                )?;
             }
         }
         next += 1;
@@ -85,11 +91,11 @@ impl Search {
     fn new<W: Web>(alloc: Global, web: &W) -> Result<Search, AllocError>
         ensures search { IfOk result
             (λ search. IsSearch
-                (W.joints web.now)
-                (length (W.joints web.now))
-                search.found.items
-                search.queue.items
-                0) }
+            (W.joints web.now)
+            (length (W.joints web.now))
+            search.found.items
+            search.queue.items
+            0) }
         ensures few { length (W.joints web.now) ≤ 2097152 }
     {
         let found = vec![in alloc; None; web.points()]?;
@@ -97,7 +103,13 @@ impl Search {
         let mut search = Search { found, queue };
         for i in 0..web.points() {
             if web.anchored(i) {
-                search.add(i as u32, Entry { toward: None, distance: 0 })?;
+                search.add(
+                    i as u32,
+                    Entry {
+                        toward: None,
+                        distance: 0,
+                    },
+                )?;
             }
         }
         Ok(search)

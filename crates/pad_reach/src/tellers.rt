@@ -36,9 +36,9 @@ impl Tellers {
             ≤ vec_len self.now.points }
         ensures { result.now
             ≡ slice_range
-                self.now.points.items
-                (slice_index self.now.starts.items point)
-                (slice_index self.now.starts.items (point + 1)) }
+            self.now.points.items
+            (slice_index self.now.starts.items point)
+            (slice_index self.now.starts.items (point + 1)) }
     {
         &self.points[self.starts[point]..self.starts[point + 1]]
     }
@@ -70,7 +70,7 @@ fn count_entries<W: Web>(web: &W, i: usize, counts: &mut [usize])
         (λ q. slice_index counts.old q + length (joint_at (W.joints web.now) i).near < 2 ^ 64) }
     ensures { EachIndex counts.new
         (λ q. slice_index counts.new q
-            ≡ slice_index counts.old q + entries_to q (joint_at (W.joints web.now) i).near) }
+        ≡ slice_index counts.old q + entries_to q (joint_at (W.joints web.now) i).near) }
 {
     for k in 0..web.degree(i) {
         counts[web.neighbour(i, k) as usize] += 1;

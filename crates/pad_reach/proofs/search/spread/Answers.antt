@@ -61,10 +61,12 @@ loop-far-preserved g c =
     let found_of : Search → List (Option Entry) = λ s. s.found.items in
     let queue_of : Search → List ℕ = λ s. s.queue.items in
     let Visit : Search → Type 0 = λ s. IsVisit (g.W.Web.joints c.args.web.now) s.found.items s.queue.items c.loop-next.next c.index-near.result.now (c.unwrap-distance.result.distance + 1) c.of-far-items.result.now (c.loop-far.far-index + 1) in
-    elim c.if-is_none.branch [ then-is_none+in_ok-add w ↦
-      IsVisit-added _ _ _ _ _ _ _ _ c.loop-far.invariant far.0 far.1 (none_read _ _ c.index-in-loop-far.result.now inside c.index-in-loop-far.ensures w.if-is_none.ensures) _ _ (ap found_of w.search-is ∙ w.in_ok-add.ensures.found) (ap queue_of w.search-is ∙ w.in_ok-add.ensures.queue)
-    | else-is_none w ↦
-      subst Visit (sym w.search-is) (IsVisit-skip _ _ _ _ _ _ _ _ c.loop-far.invariant (some_read _ _ c.index-in-loop-far.result.now inside c.index-in-loop-far.ensures w.if-is_none.ensures)) ]
+    elim c.if-is_none.branch [
+      | then-is_none+in_ok-add w ↦
+          IsVisit-added _ _ _ _ _ _ _ _ c.loop-far.invariant far.0 far.1 (none_read _ _ c.index-in-loop-far.result.now inside c.index-in-loop-far.ensures w.if-is_none.ensures) _ _ (ap found_of w.search-is ∙ w.in_ok-add.ensures.found) (ap queue_of w.search-is ∙ w.in_ok-add.ensures.queue)
+      | else-is_none w ↦
+          subst Visit (sym w.search-is) (IsVisit-skip _ _ _ _ _ _ _ _ c.loop-far.invariant (some_read _ _ c.index-in-loop-far.result.now inside c.index-in-loop-far.ensures w.if-is_none.ensures))
+    ]
 
 pub loop-next-preserved : goal.loop-next-preserved
 loop-next-preserved g c =

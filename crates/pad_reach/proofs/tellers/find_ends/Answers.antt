@@ -25,7 +25,7 @@ loop-i-preserved g c =
     record {
       counted = λ q h. omega (arith, c.count_entries.ensures q h, c.loop-i.invariant.counted q (omega arith), told-more q web c.loop-i.i (omega arith));
       sum = omega (arith, c.in_ok-total.ensures, entries-more web c.loop-i.i (omega arith));
-      fits = omega (arith, c.in_ok-total.ensures)
+      fits = omega (arith, c.in_ok-total.ensures);
     }
 
 pub add_up-requires : goal.add_up-requires

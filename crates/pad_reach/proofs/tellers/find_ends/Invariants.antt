@@ -6,5 +6,5 @@ abbrev pub invariant-loop-i : goal.invariant-loop-i
 invariant-loop-i g l = record {
   counted : (q : ℕ) → q < length l.ends → get_or l.ends q 0 ≡ told q (take l.i (g.W.Web.joints l.web));
   sum : l.total ≡ entries (take l.i (g.W.Web.joints l.web));
-  fits : l.total < 2 ^ 64
+  fits : l.total < 2 ^ 64;
 }

@@ -19,6 +19,8 @@ loop-i-preserved g c =
     let found_of : Search → List (Option Entry) = λ s. s.found.items in
     let queue_of : Search → List ℕ = λ s. s.queue.items in
     let Begun : Search → Type 0 = λ s. IsBegun web (c.loop-i.i + 1) s.found.items s.queue.items in
-    elim c.if-anchored.branch [ then-anchored+in_ok-add w ↦
-      IsBegun-added web _ _ _ c.loop-i.invariant (omega arith) (sym w.if-anchored.ensures) _ _ (ap found_of w.search-is ∙ w.in_ok-add.ensures.found) (ap queue_of w.search-is ∙ w.in_ok-add.ensures.queue)
-    | else-anchored w ↦ subst Begun (sym w.search-is) (IsBegun-skip web _ _ _ c.loop-i.invariant (λ a. (let loose = w.if-anchored.ensures in cc))) ]
+    elim c.if-anchored.branch [
+      | then-anchored+in_ok-add w ↦
+          IsBegun-added web _ _ _ c.loop-i.invariant (omega arith) (sym w.if-anchored.ensures) _ _ (ap found_of w.search-is ∙ w.in_ok-add.ensures.found) (ap queue_of w.search-is ∙ w.in_ok-add.ensures.queue)
+      | else-anchored w ↦ subst Begun (sym w.search-is) (IsBegun-skip web _ _ _ c.loop-i.invariant (λ a. (let loose = w.if-anchored.ensures in cc)))
+    ]
