@@ -1,8 +1,8 @@
 -- A chain leads from exactly the points that a settled search has reached.
-use Rattle.std.proofs.Common.{◌≡◌, ℕ, zero, suc, ◌+◌, ◌<◌, ◌≤◌, inl, inr, IsTrue, List, [], ◌∷◌, length, map, get_or, take, Option, Some, None, IsSome, refl, sym, ap, ◌∙◌, subst, arith}
+use Rattle.std.proofs.Common.{◌≡◌, ℕ, zero, suc, ◌<◌, ◌≤◌, inl, inr, IsTrue, List, [], ◌∷◌, length, map, get_or, take, Option, Some, None, IsSome, refl, sym, ap, ◌∙◌, subst, arith}
 use Rattle.std.proofs.lemmas.List.{length-map, length-take-le, get_or-map, get_or-take, get_or_past}
 use Rattle.std.proofs.lemmas.Bool.{cases_lt}
-use Rattle.pad_reach.specs.Chain.{Joint, no_joint, joint_at, IsNeighbour, IsAnchored, IsChain, HasChain}
+use Rattle.pad_reach.specs.Chain.{Joint, no_joint, IsNeighbour, IsAnchored, IsChain, HasChain}
 use Rattle.pad_reach.specs.Reaches.{Step, no_step, step_at, LeadsOn, Reaches, IsFirstUnanchored}
 use Rattle.pad_reach.specs.Search.{found_at, IsReached, IsFoundBy, IsSound, IsSettled}
 use Rattle.pad_reach.specs.declared.steps.Entry.{Entry}

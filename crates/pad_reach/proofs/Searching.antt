@@ -1,11 +1,11 @@
 -- A search reaches one more point, is done with a point, and ends.
-use Rattle.std.proofs.Common.{◌≡◌, ◌≢◌, ℕ, ◌+◌, ◌<◌, ◌≤◌, ◌⊎◌, inl, inr, Bool, true, false, cond, List, [], ◌∷◌, ◌++◌, length, get_or, slice_index, slice_index_or, set, replicate, Option, Some, None, is_none, is_some, IsSome, refl, sym, ap, ◌∙◌, subst, below_more, arith}
+use Rattle.std.proofs.Common.{◌≡◌, ◌≢◌, ℕ, ◌+◌, ◌<◌, ◌≤◌, ◌⊎◌, inl, inr, true, false, cond, List, [], ◌∷◌, ◌++◌, length, get_or, slice_index, set, replicate, Option, Some, None, is_none, is_some, refl, sym, ap, ◌∙◌, subst, below_more, arith}
 use Rattle.std.proofs.lemmas.List.{length-set, length_push, length-replicate, get_or-replicate, get_or-set_same, get_or-set_other, get_or_past, get_or_push, get_or_append_left, get_or_read}
 use Rattle.std.proofs.lemmas.List.Sums.{sum_by-set}
 use Rattle.std.proofs.lemmas.List.Folds.{sum_by-replicate}
 use Rattle.std.proofs.lemmas.Bool.{cases_eq, cases_lt}
 use Rattle.pad_reach.specs.Chain.{Joint, IsNeighbour, IsAnchored}
-use Rattle.pad_reach.specs.Search.{found_at, IsReached, unreached, IsNearer, IsFoundBy, IsSound, IsSettled, IsWaiting, IsSearch}
+use Rattle.pad_reach.specs.Search.{found_at, IsReached, unreached, IsNearer, IsFoundBy, IsSound, IsSearch}
 use Rattle.pad_reach.specs.declared.steps.Entry.{Entry}
 
 -- a reached point is a point
@@ -128,14 +128,6 @@ IsSearch-start web = record {
   closed = λ p q hp near hq. absurd (let none = found_at-none (length web) q in cc);
   counted = omega (arith, unreached-none (length web));
   within = omega arith;
-}
-
--- the search ends when no point waits
-pub IsSettled-end : (web : List Joint) (limit : ℕ) (found : List (Option Entry)) (queue : List ℕ) (next : ℕ) → IsSearch web limit found queue next → length web ≤ limit → length queue ≤ next → IsSettled web found
-IsSettled-end web limit found queue next s whole ended = record {
-  sound = s.sound;
-  anchored = λ p l a. s.anchored p (omega arith) a;
-  closed = λ p q hp near hq. elim (s.closed p q hp near hq) [ inl r ↦ r | inr w ↦ absurd (omega (arith, w.1, w.2)) ];
 }
 
 -- what a read of an entry tells

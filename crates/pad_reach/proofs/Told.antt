@@ -1,5 +1,5 @@
 -- How many entries tell a point: one entry more, one joint more, and the sums of the counts.
-use Rattle.std.proofs.Common.{◌≡◌, ◌≢◌, ℕ, zero, suc, ◌+◌, ◌-◌, ◌<◌, ◌≤◌, Bool, true, false, cond, eqb, ltb, List, [], ◌∷◌, length, get_or, take, set, sum, sum_by, count_by, refl, sym, ap, ◌∙◌, subst, inl, inr, arith, add-zero, add-one}
+use Rattle.std.proofs.Common.{◌≡◌, ◌≢◌, ℕ, zero, suc, ◌+◌, ◌-◌, ◌<◌, ◌≤◌, cond, eqb, ltb, List, [], ◌∷◌, length, get_or, take, set, sum, count_by, refl, sym, ap, ◌∙◌, subst, inl, inr, below_more, arith, add-zero, add-one}
 use Rattle.std.proofs.lemmas.List.{length-set, get_or-set_same, get_or-set_other, take_all}
 use Rattle.std.proofs.lemmas.List.Sums.{sum_by-cons, sum_by_more, sum_by_more_le, sum_by-take-le, sum_by-le-sum_by, count_by-le-length, count_by_more_yes, count_by_more_no}
 use Rattle.std.proofs.lemmas.Bool.{cases_eq}
@@ -67,9 +67,6 @@ entries-more web i h = sum_by_more (λ joint. length joint.near) web i no_joint 
 pub entries-more-le : (web : List Joint) (i : ℕ) → i < length web → entries (take i web) + length (joint_at web i).near ≤ entries web
 unfolding entries
 entries-more-le web i h = sum_by_more_le (λ joint. length joint.near) web i no_joint h
-
-pub entries-all : (web : List Joint) → entries (take (length web) web) ≡ entries web
-entries-all web = ap entries (take_all (length web) web (omega arith))
 
 -- the entries that tell a point before q + 1 are those that tell one before q, and those that tell q
 near_before : (q : ℕ) (near : List ℕ) → count_by (λ x. ltb x (q + 1)) near ≡ count_by (λ x. ltb x q) near + entries_to q near
@@ -140,3 +137,26 @@ module _ (web : List Joint) (i : ℕ) (whole : length web ≤ i) (counts : List 
 
   pub AreEnds-summed : (ends : List ℕ) → length ends ≡ length counts → ((q : ℕ) → q < length ends → get_or ends q 0 ≡ sum (take (q + 1) counts)) → AreEnds web ends
   AreEnds-summed ends same each = record { all = omega arith; each = λ q h. each q h ∙ sums (q + 1) (omega arith) }
+
+-- The counts before i are summed up, and the others are as they were.
+pub record IsSummed (was counts : List ℕ) (i total : ℕ) : Type 0 where
+  pub so_far : total ≡ sum (take i was)
+  pub summed : (q : ℕ) → q < i → get_or counts q 0 ≡ sum (take (q + 1) was)
+  pub rest : (q : ℕ) → i ≤ q → get_or counts q 0 ≡ get_or was q 0
+
+module _ (was counts : List ℕ) (i total : ℕ) (s : IsSummed was counts i total) (there : i < length was) where
+  pub summed-le : total + get_or counts i 0 ≤ sum was
+  summed-le = omega (arith, s.so_far, s.rest i (omega arith), sum_by_more_le (λ x. x) was i 0 there)
+
+  pub IsSummed-more : length counts ≡ length was → IsSummed was (set counts i (total + get_or counts i 0)) (i + 1) (total + get_or counts i 0)
+  IsSummed-more same =
+      let here = get_or-set_same counts i (total + get_or counts i 0) 0 (omega arith) in
+      let more = sum_by_more (λ x. x) was i 0 there in
+      let next : total + get_or counts i 0 ≡ sum (take (i + 1) was) = omega (arith, s.so_far, s.rest i (omega arith)) in
+      record {
+        so_far = next;
+        summed = below_more (λ q. get_or (set counts i (total + get_or counts i 0)) q 0 ≡ sum (take (q + 1) was)) i
+          (λ q h. let n : q ≢ i = omega arith in get_or-set_other counts i q (total + get_or counts i 0) 0 n ∙ s.summed q h)
+          (here ∙ next);
+        rest = λ q h. let n : q ≢ i = omega arith in get_or-set_other counts i q (total + get_or counts i 0) 0 n ∙ s.rest q (omega arith)
+      }

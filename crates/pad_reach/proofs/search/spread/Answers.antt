@@ -1,10 +1,9 @@
-use Rattle.std.proofs.Common.{◌≡◌, ℕ, ◌+◌, ◌<◌, List, length, get_or, Option, Some, None, sym, ap, ◌∙◌, subst, arith}
-use Rattle.pad_reach.specs.Chain.{Joint}
-use Rattle.pad_reach.specs.Search.{found_at, IsReached}
+use Rattle.std.proofs.Common.{◌≡◌, ℕ, ◌+◌, ◌<◌, List, length, get_or, Option, Some, sym, ap, ◌∙◌, subst, arith}
+use Rattle.pad_reach.specs.Search.{found_at}
 use Rattle.pad_reach.specs.declared.steps.Entry.{Entry}
 use Rattle.pad_reach.specs.declared.search.Search.{Search}
 use Rattle.pad_reach.proofs.Placing.{row_sound, row_complete}
-use Rattle.pad_reach.proofs.Searching.{there_if_reached, next_reached, next_there, visited_there, entry_read, none_read, some_read, IsVisit, IsVisit-start, IsVisit-skip, IsVisit-added, IsVisit-end}
+use Rattle.pad_reach.proofs.Searching.{next_there, visited_there, entry_read, none_read, some_read, IsVisit, IsVisit-start, IsVisit-skip, IsVisit-added, IsVisit-end}
 use Rattle.pad_reach.proofs.search.spread.Goals as goal
 use Rattle.pad_reach.proofs.search.spread.Goals.{then-is_none+in_ok-add, else-is_none}
 

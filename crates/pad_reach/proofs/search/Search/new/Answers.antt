@@ -1,4 +1,4 @@
-use Rattle.std.proofs.Common.{◌≡◌, ℕ, ◌+◌, List, length, replicate, Option, Some, None, true, false, refl, sym, ap, ◌∙◌, subst, rules, arith}
+use Rattle.std.proofs.Common.{ℕ, ◌+◌, List, replicate, Option, None, sym, ap, ◌∙◌, subst, rules, arith}
 use Rattle.pad_reach.specs.Chain.{Joint}
 use Rattle.pad_reach.specs.declared.steps.Entry.{Entry}
 use Rattle.pad_reach.specs.declared.search.Search.{Search}
