@@ -11,3 +11,4 @@ pub mod Reading
 pub mod MicroValue
 pub mod Exponents
 pub mod Kept
+pub mod Canonical

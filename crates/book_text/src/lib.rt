@@ -11,7 +11,7 @@ mod line;
 mod memory;
 mod number;
 
-pub use decimal::{Micro, put_micro, read_micro};
+pub use decimal::{Micro, canonical_reads_back, put_micro, read_micro};
 pub use line::{Line, Span, count_lines, next_line, next_word};
 pub use memory::Memory;
 pub use number::{NumberFault, read_whole};
