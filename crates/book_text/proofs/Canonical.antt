@@ -66,7 +66,7 @@ pub record IsFraction (rest : ℕ) (digits : List ℕ) : Type 0 where
   pub all : are_digits digits ≡ true
   pub value : digits_value 10 digits * 10 ^ (6 - length digits) ≡ rest
 
-trimmed : (rest : ℕ) → rest < 1000000 → IsFraction rest (without_trailing_zeros (six_digits rest))
+pub trimmed : (rest : ℕ) → rest < 1000000 → IsFraction rest (without_trailing_zeros (six_digits rest))
 trimmed rest small =
     let six = six_digits rest in let k = suffix_len is_zero_digit six in let digits = without_trailing_zeros six in
     let few : k ≤ 6 = suffix_len-le-length is_zero_digit six in
@@ -120,13 +120,13 @@ digits_test = record {
 }
 
 -- the digits before the point
-record IsWhole (number : ℕ) (whole : List ℕ) : Type 0 where
-  digits : are_digits whole ≡ true
-  some : 0 < length whole
-  few : length whole ≤ 7
-  value : digits_value 10 whole ≡ number
+pub record IsWhole (number : ℕ) (whole : List ℕ) : Type 0 where
+  pub digits : are_digits whole ≡ true
+  pub some : 0 < length whole
+  pub few : length whole ≤ 7
+  pub value : digits_value 10 whole ≡ number
 
-whole-decimal : (number : ℕ) → number ≤ 1000000 → IsWhole number (decimal number)
+pub whole-decimal : (number : ℕ) → number ≤ 1000000 → IsWhole number (decimal number)
 whole-decimal number le = let own = numerals_by_value _ digits_test in let small : number < 2 ^ 64 = omega arith in record {
   digits = digits_decimal own number small;
   some = decimal_nonempty number small;
@@ -146,7 +146,7 @@ quotient whole value places rest le same =
     ∙ mul-div_cancel (whole * (up * down) + value * up) (power_pos places)
     ∙ ap (λ m. whole * m + value * up) (sym million) ∙ ap (λ k. whole * 1000000 + k) same
 
-abbrev text_of : ℕ → List ℕ
+abbrev pub text_of : ℕ → List ℕ
 text_of size = decimal (size / 1000000) ++ fraction_text (size % 1000000)
 
 -- a word that is such a text behind at most one byte of sign has that size
@@ -178,18 +178,19 @@ no_sign bytes some digit =
     let no_plus : (get_or bytes 0 0 == 43) ≡ false = ne_eqb (get_or bytes 0 0) 43 (λ e. omega (arith, in_range.0)) in
     (no_minus, cond-false (starts_with_minus bytes) (drop 1 bytes) (without_leading_plus bytes) no_minus ∙ ap (λ b. drop (cond b 1 0) bytes) no_plus)
 
-text-digit : (size : ℕ) → size ≤ 10 ^ 12 → (0 < length (text_of size)) × (is_ascii_digit (get_or (text_of size) 0 0) ≡ true)
+pub text-digit : (size : ℕ) → size ≤ 10 ^ 12 → (0 < length (text_of size)) × (is_ascii_digit (get_or (text_of size) 0 0) ≡ true)
 text-digit size le = let w = whole-decimal (size / 1000000) (omega arith) in first (decimal (size / 1000000)) (fraction_text (size % 1000000)) w.some w.digits
   where
     first : (whole more : List ℕ) → 0 < length whole → are_digits whole ≡ true → (0 < length (whole ++ more)) × (is_ascii_digit (get_or (whole ++ more) 0 0) ≡ true)
     first [] more some digits = absurd (omega arith)
     first (c ∷ whole) more some digits = (omega arith, (and_parts (is_ascii_digit c) (are_digits whole) digits).0)
 
+pub canonical-pos : (n : ℕ) → canonical (pos n) ≡ text_of n
+canonical-pos n = ap (λ sign. sign ++ text_of n) (cond-false (int_lt (pos n) (pos 0)) (45 ∷ []) [] (le-ltb n 0 (omega arith)))
+
 pub canonical-reads_back : (z : ℤ) → neg_ℤ (pos (10 ^ 12)) ≤ℤ z → z ≤ℤ pos (10 ^ 12) → micro_value (canonical z) ≡ Ok z
 canonical-reads_back (pos n) low high =
     let le : n ≤ 10 ^ 12 = omega (arith, ints) in let digit = text-digit n le in let plain = no_sign (text_of n) digit.0 digit.1 in
-    let no_minus : int_lt (pos n) (pos 0) ≡ false = le-ltb n 0 (omega arith) in
-    let text : canonical (pos n) ≡ text_of n = ap (λ xs. xs ++ text_of n) (cond-false (int_lt (pos n) (pos 0)) (45 ∷ []) [] no_minus) in
-    ap micro_value text ∙ value-signed (text_of n) false n n (value_of n le (text_of n) plain.1 (omega arith)) le (sym plain.0) refl
+    ap micro_value (canonical-pos n) ∙ value-signed (text_of n) false n n (value_of n le (text_of n) plain.1 (omega arith)) le (sym plain.0) refl
 canonical-reads_back (negsuc n) low high = let le : suc n ≤ 10 ^ 12 = omega (arith, ints) in
     value-signed (45 ∷ text_of (suc n)) true (suc n) (suc n) (value_of (suc n) le (45 ∷ text_of (suc n)) refl (omega arith)) le refl refl

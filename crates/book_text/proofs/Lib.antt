@@ -12,3 +12,6 @@ pub mod MicroValue
 pub mod Exponents
 pub mod Kept
 pub mod Canonical
+pub mod Spaced
+pub mod Found
+pub mod CanonicalWords

@@ -6,7 +6,7 @@ use Rattle.std.specs.List.{slice_split, onto_first, prefix_len, suffix_len, posi
 use Rattle.std.proofs.lemmas.Bool.{cases_Bool, cases_lt, both_ways, ltb-false, eqb-true, not_from_true, not_from_false}
 use Rattle.std.proofs.lemmas.List.{length-drop, length-replicate, length-reverse, ext_get_or, get_or-drop, get_or-replicate, get_or-reverse, reverse-reverse}
 use Rattle.std.proofs.lemmas.List.Splits.{slice_split-cons_yes, slice_split-cons_no}
-use Rattle.std.proofs.lemmas.List.Sums.{prefix_len-le-length, suffix_len-le-length, prefix_len_passes}
+use Rattle.std.proofs.lemmas.List.Sums.{prefix_len-le-length, suffix_len-le-length, prefix_len_passes, prefix_len_stops}
 
 module _ (p : ℕ → Bool) where
   pub prefix_len-yes : (x : ℕ) (xs : List ℕ) → p x ≡ true → prefix_len p (x ∷ xs) ≡ 1 + prefix_len p xs
@@ -35,6 +35,15 @@ module _ (p : ℕ → Bool) where
       let same : get_or xs i 0 ≡ get_or (reverse xs) from_end 0 =
       ap (λ ys. get_or ys i 0) (sym (reverse-reverse xs)) ∙ get_or-reverse (reverse xs) i 0 (omega arith) in
       ap p same ∙ prefix_len_passes p (reverse xs) from_end 0 (omega arith)
+
+  -- the element before them fails
+  pub suffix_len_stops : (xs : List ℕ) → suffix_len p xs < length xs → p (get_or xs (length xs - suffix_len p xs - 1) 0) ≡ false
+  suffix_len_stops xs some =
+      let n = suffix_len p xs in let i = length xs - n - 1 in let same_length : length (reverse xs) ≡ length xs = length-reverse xs in
+      let from_end : length (reverse xs) - 1 - i ≡ n = omega arith in
+      let same : get_or xs i 0 ≡ get_or (reverse xs) n 0 =
+      ap (λ ys. get_or ys i 0) (sym (reverse-reverse xs)) ∙ get_or-reverse (reverse xs) i 0 (omega arith) ∙ ap (λ k. get_or (reverse xs) k 0) from_end in
+      ap p same ∙ prefix_len_stops p (reverse xs) 0 (omega arith)
 
   -- where the first element fails, it is not among the last that pass
   pub suffix_len-front_no : (x : ℕ) (xs : List ℕ) → p x ≡ false → suffix_len p (x ∷ xs) ≤ length xs
