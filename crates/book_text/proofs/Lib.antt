@@ -11,3 +11,7 @@ pub mod Reading
 pub mod MicroValue
 pub mod Exponents
 pub mod Kept
+pub mod Canonical
+pub mod Spaced
+pub mod Found
+pub mod CanonicalWords

@@ -55,16 +55,18 @@ pub record IsSized (word : List ℕ) (size : ℕ) : Type 0 where
   pub form : is_number word ≡ true
   pub size_is : micro_size word ≡ size
 
-sized : (word : List ℕ) (places : Places) → length word ≤ 30 → 0 < length (whole_of word) + length (fraction_of word) → IsExponent (end_of word) places
-    → IsSized word (digits_value 10 (whole_of word ++ fraction_of word) * 10 ^ (6 + places.right) / 10 ^ (length (fraction_of word) + places.left))
-sized word places short some exponent = let r = reading word in let s = r.parts exponent.form in let number = digits_value 10 (whole_of word ++ fraction_of word) in
-    let digits : nat_lt 0 (length (whole_of word ++ fraction_of word)) ≡ true = lt-ltb 0 _ (omega (arith, some, length-append (whole_of word) (fraction_of word))) in
+-- a word whose parts without its sign are these
+pub sized : (word whole fraction end : List ℕ) (places : Places) → IsReading (without_leading_sign word) whole fraction end → length word ≤ 30
+    → 0 < length whole + length fraction → IsExponent end places
+    → IsSized word (digits_value 10 (whole ++ fraction) * 10 ^ (6 + places.right) / 10 ^ (length fraction + places.left))
+sized word whole fraction end places r short some exponent = let s = r.parts exponent.form in let number = digits_value 10 (whole ++ fraction) in
+    let digits : nat_lt 0 (length (whole ++ fraction)) ≡ true = lt-ltb 0 _ (omega (arith, some, length-append whole fraction)) in
     record {
       form = and_from (nat_le (length word) 30) (is_unsigned (without_leading_sign word)) (le-leb (length word) 30 short)
-          (r.form ∙ and_from (nat_lt 0 (length (whole_of word ++ fraction_of word))) (is_exponent_part (end_of word)) digits exponent.form);
-      size_is = size_of-parts word (whole_of word) (fraction_of word) (end_of word) s
-          ∙ ap (λ k. number * 10 ^ (6 + k) / 10 ^ (length (fraction_of word) + (if starts_with_minus (drop 1 (end_of word)) then exponent_size (end_of word) else 0))) (sym exponent.right)
-          ∙ ap (λ k. number * 10 ^ (6 + places.right) / 10 ^ (length (fraction_of word) + k)) (sym exponent.left);
+          (r.form ∙ and_from (nat_lt 0 (length (whole ++ fraction))) (is_exponent_part end) digits exponent.form);
+      size_is = size_of-parts word whole fraction end s
+          ∙ ap (λ k. number * 10 ^ (6 + k) / 10 ^ (length fraction + (if starts_with_minus (drop 1 end) then exponent_size end else 0))) (sym exponent.right)
+          ∙ ap (λ k. number * 10 ^ (6 + places.right) / 10 ^ (length fraction + k)) (sym exponent.left);
     }
 
 -- what was read of a word without its sign
@@ -88,7 +90,7 @@ module _ (word unsigned : List ℕ) (number whole fraction : ℕ) (rest : List �
       → IsSized word (number * 10 ^ (6 + places.right) / 10 ^ (fraction + places.left))
   read-sized places short some exponent = let m = mantissa in
       let exponent' = subst (λ (bytes : List ℕ). IsExponent bytes places) m.rest_is exponent in
-      rw (m.number_is, m.fraction_is) (sized word places short (omega (arith, some, m.whole_is, m.fraction_is)) exponent')
+      rw (m.number_is, m.fraction_is) (sized word (whole_of word) (fraction_of word) (end_of word) places (reading word) short (omega (arith, some, m.whole_is, m.fraction_is)) exponent')
 
 -- the value of a number of this size
 abbrev value_at : List ℕ → ℕ → Result ℤ NumberFault

@@ -52,7 +52,8 @@ bad_reading word whole fraction end bad no_end = record {
   parts = λ e. absurd (both_ways (is_exponent_part end) no_end e);
 }
 
-reading_from : (front whole fraction end : List ℕ) → IsFront front whole fraction → are_digits whole ≡ true → are_digits fraction ≡ true
+-- what is read of such a front and an end
+pub reading_from : (front whole fraction end : List ℕ) → IsFront front whole fraction → are_digits whole ≡ true → are_digits fraction ≡ true
     → ((c : ℕ) (rest : List ℕ) → end ≡ c ∷ rest → is_exponent_mark c ≡ false → are_digits (digits_in (front ++ c ∷ rest)) ≡ false)
     → IsReading (front ++ end) whole fraction end
 reading_from front whole fraction [] f digits more bad = good_reading (front ++ []) whole fraction [] digits more (split front whole fraction [] f end-none) refl

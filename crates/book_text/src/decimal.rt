@@ -1,10 +1,11 @@
 //! Decimal numbers of millionths, read and written.
 
-ghost use Rattle.std.specs.Prelude.{◌≡◌, ◌+◌, ◌*◌, ◌/◌, ◌^◌, ◌<◌, ◌≤◌, ◌++◌, false, length, take, vec_len, pos, neg_ℤ, if◌then◌else◌, FitsSigned, Ok, Err, MatchOption, MatchResult, OnOk, OnErr};
+ghost use Rattle.std.specs.Prelude.{◌≡◌, ◌+◌, ◌*◌, ◌/◌, ◌^◌, ◌<◌, ◌≤◌, ◌++◌, false, length, take, vec_len, ℤ, pos, neg_ℤ, ◌≤ℤ◌, if◌then◌else◌, FitsSigned, Ok, Err, MatchOption, MatchResult, OnOk, OnErr};
 ghost use Rattle.std.specs.Int.{w64};
 ghost use Rattle.std.specs.Option.{SomeIff};
 ghost use Rattle.std.specs.Str.Parse.{digits_value, digits_value_after, starts_with_minus, without_leading_sign};
 ghost use Rattle.book_text.specs.Decimal.{micro_value, digit_at, without_trailing_zeros, fraction_text, canonical};
+ghost use Rattle.book_text.specs.Lines.{IsWord};
 ghost use Rattle.book_text.specs.Parts.{leading_digits, behind_digits, leading_fraction, behind_fraction, is_exponent_part, IsExponent};
 
 use crate::Memory;
@@ -291,3 +292,13 @@ fn without_trailing_zeros(digits: &[u8]) -> &[u8]
     }
     kept
 }
+
+/// A law: what `put_micro` writes of a number in the range of `read_micro` is read as that number.
+pub fn canonical_reads_back()
+    ensures { (z : ℤ) → neg_ℤ (pos (10 ^ 12)) ≤ℤ z → z ≤ℤ pos (10 ^ 12) → micro_value (canonical z) ≡ Ok z }
+{}
+
+/// A law: what `put_micro` writes of such a number is one word of a line.
+pub fn canonical_is_word()
+    ensures { (z : ℤ) → neg_ℤ (pos (10 ^ 12)) ≤ℤ z → z ≤ℤ pos (10 ^ 12) → IsWord (canonical z) }
+{}

@@ -11,8 +11,8 @@ mod line;
 mod memory;
 mod number;
 
-pub use decimal::{Micro, put_micro, read_micro};
-pub use line::{Line, Span, count_lines, next_line, next_word};
+pub use decimal::{Micro, canonical_is_word, canonical_reads_back, put_micro, read_micro};
+pub use line::{Line, Span, count_lines, next_line, next_word, spaced_words};
 pub use memory::Memory;
 pub use number::{NumberFault, read_whole};
 
