@@ -5,6 +5,14 @@ use Rattle.book_outer.specs.Cause.{one_more}
 use Rattle.book_outer.specs.Files.{FileEntry}
 use Rattle.book_outer.specs.Folder.{Reading}
 
+-- a folder in memory that never fails: its files, the one that is being read, the one that is being written, and its counts
+pub record StoredFiles : Type 0 where
+  pub files : List FileEntry
+  pub reading : Option Reading
+  pub writing : Option (List ℕ)
+  pub begun : ℕ
+  pub missed : ℕ
+
 -- a folder in memory: its files, the numbers of the calls that are to fail, how many calls there were, and the rest
 pub record MemoryFiles : Type 0 where
   pub files : List FileEntry

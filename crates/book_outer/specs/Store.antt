@@ -32,14 +32,6 @@ pub record IsNamed (files : List FileEntry) (name : List ℕ) (at : ℕ) : Type 
   pub place : place_of files name ≡ at
   pub holds : content files name ≡ Some (entry_at files at).bytes
 
--- what a store of files holds
-pub record Stored : Type 0 where
-  pub files : List FileEntry
-  pub reading : Option Reading
-  pub writing : Option (List ℕ)
-  pub begun : ℕ
-  pub missed : ℕ
-
 -- the name and the place of the file that is being read
 abbrev pub reading_of : List FileEntry → Option Open → Option Reading
 reading_of files None = None

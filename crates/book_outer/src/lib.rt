@@ -8,6 +8,7 @@
 //! The contract: an answer Failed comes only where a count of faults rose in that call.
 #![tactic(auto)]
 
+mod calm;
 mod folder;
 mod gate;
 mod host;
@@ -17,6 +18,7 @@ mod sink;
 mod store;
 mod trouble;
 
+pub use calm::{CalmFolder, CalmSink};
 pub use folder::Folder;
 pub use gate::{Gate, OpenGate};
 pub use host::{HostFolder, StdSink};

@@ -10,7 +10,7 @@ ghost use Rattle.book_outer.specs.Sink.{Gets};
 use crate::folder::Folder;
 use crate::lists::{Calls, Files};
 use crate::sink::Sink;
-use crate::store::Store;
+use crate::store::{Store, append};
 use crate::trouble::{Trouble, counted};
 use std::alloc::Global;
 use std::marker::Model;
@@ -219,16 +219,4 @@ fn next_fails(calls: &mut u64, failing: &Calls) -> bool
 {
     *calls = calls.saturating_add(1);
     failing.as_slice().contains(calls)
-}
-
-/// Puts bytes behind those that are there, unless the call is to fail.
-pub(crate) fn append(written: &mut Vec<u8>, bytes: &[u8], fails: bool) -> Result<(), Trouble>
-    ensures answer { MatchBool fails (result ≡ Err Trouble.Failed) (IsOkUnless result Trouble.Memory) }
-    ensures gets { Gets (Some written.old.items) (Some written.new.items) bytes.now result }
-{
-    if fails {
-        return Err(Trouble::Failed);
-    }
-    written.extend_from_slice(bytes)?;
-    Ok(())
 }

@@ -1,8 +1,9 @@
-//! Files in memory with a place to read and one to write, which the folders in memory share.
+//! What the folders and the sinks in memory share: files with one that is read and one that is written, and bytes.
 
 ghost use Rattle.std.specs.Prelude.{◌≡◌, ℕ, ◌<◌, ◌↔◌, length, Some, None, Ok, Err, IsTrue, IsSome, IsErrOf, is_some, not, ◌&&◌, option_copied, if◌then◌else◌, IsOk, IsOkUnless, MatchBool, drop, max, ◌+◌, ◌≤◌};
 ghost use Rattle.book_outer.specs.Cause.{one_more};
 ghost use Rattle.book_outer.specs.Files.{content};
+ghost use Rattle.book_outer.specs.Sink.{Gets};
 ghost use Rattle.book_outer.specs.Folder.{Begins, Reads, Creates, Puts, missed_after, TakesFront};
 
 use crate::lists::Files;
@@ -27,9 +28,10 @@ pub(crate) struct Store {
 }
 
 impl Model for Store {
-    ghost use Rattle.book_outer.specs.Store.{Stored, AreOpenFound, reading_of, writing_of};
+    ghost use Rattle.book_outer.specs.Memory.{StoredFiles};
+    ghost use Rattle.book_outer.specs.Store.{AreOpenFound, reading_of, writing_of};
 
-    ghost Value = { Stored };
+    ghost Value = { StoredFiles };
 
     ghost view = { λ s. record {
       files = s.files;
@@ -72,6 +74,7 @@ impl Store {
         ensures writing { self.new.writing ≡ self.old.writing }
         ensures begun { self.new.begun ≡ one_more self.old.begun }
         ensures missed { self.new.missed ≡ missed_after (Some self.old.files) name.now self.old.missed }
+        ensures later { self.old.missed ≤ self.new.missed }
     {
         let found = self.files.find(name);
         self.begun = self.begun.saturating_add(1);
@@ -142,6 +145,18 @@ impl Store {
         self.files.extend(at, bytes)?;
         Ok(())
     }
+}
+
+/// Puts bytes behind those that are there, unless the call is to fail.
+pub(crate) fn append(written: &mut Vec<u8>, bytes: &[u8], fails: bool) -> Result<(), Trouble>
+    ensures answer { MatchBool fails (result ≡ Err Trouble.Failed) (IsOkUnless result Trouble.Memory) }
+    ensures gets { Gets (Some written.old.items) (Some written.new.items) bytes.now result }
+{
+    if fails {
+        return Err(Trouble::Failed);
+    }
+    written.extend_from_slice(bytes)?;
+    Ok(())
 }
 
 // Copies to the buffer's front what stands behind a place, as far as it has room, and says how much.
