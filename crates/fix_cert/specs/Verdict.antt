@@ -4,7 +4,7 @@ use Rattle.pad_reach.specs.Chain.{HasChain}
 use Rattle.relax_system.specs.declared.points.Point.{Point}
 use Rattle.relax_system.specs.System.{point_at, total_weight, joints_of}
 use Rattle.relax_system.specs.Means.{pull, floor_mean, ceil_mean, AtMost, IsFloorFixed, IsCeilFixed}
-use Rattle.relax_system.specs.Exact.{IsExact, IsBetween}
+use Rattle.relax_system.specs.Exact.{IsExact, IsBetween, HasLowerResiduals, HasUpperResiduals}
 use Rattle.fix_cert.specs.declared.verdict.Verdict.{Verdict}
 use Rattle.fix_cert.specs.declared.verdict.Verdict.TheVariants.{Encloses, Broken}
 use Rattle.fix_cert.specs.declared.verdict.Side2.{Side2}
@@ -61,6 +61,8 @@ pub record IsEnclosing (points : List Point) (lo hi : List ℕ) (gap worst : ℕ
   pub lower : IsFloorFixed points lo
   pub upper : IsCeilFixed points hi
   pub widest : IsMost (length points) (gap_at lo hi) gap
+  pub lower_residuals : HasLowerResiduals points lo
+  pub upper_residuals : HasUpperResiduals points hi
   pub worst_residual : IsMostOfBoth (length points) (lower_residual points lo) (upper_residual points hi) worst
 
 -- exactly what the verdict says
