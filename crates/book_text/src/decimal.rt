@@ -19,6 +19,12 @@ pub struct Micro(pub i64);
 /// The greatest size of a number, in millionths.
 const MOST_MICRO: u64 = 1_000_000_000_000;
 
+/// The most places up that keep a number other than 0 in range.
+const MOST_UP: u128 = 12;
+
+/// The most places down that can leave something of a number.
+const MOST_DOWN: u128 = 30;
+
 /// The powers of ten up to the greatest size.
 const POWERS: [u64; 13] = [
     1,
@@ -197,7 +203,7 @@ fn raised(number: u128, places: u128) -> Option<u64>
     requires { 0 < number }
     ensures { SomeIff result (number * 10 ^ places ≤ 10 ^ 12) (number * 10 ^ places) }
 {
-    if places > 12 || number > u128::from(MOST_MICRO) {
+    if places > MOST_UP || number > u128::from(MOST_MICRO) {
         return None;
     }
     within_range(number * u128::from(POWERS[places as usize]))
@@ -207,7 +213,7 @@ fn lowered(number: u128, places: u128) -> Option<u64>
     requires { number < 10 ^ 30 }
     ensures { SomeIff result (number / 10 ^ places ≤ 10 ^ 12) (number / 10 ^ places) }
 {
-    if places > 30 {
+    if places > MOST_DOWN {
         return Some(0);
     }
     within_range(number / 10u128.pow(places as u32))
