@@ -26,7 +26,7 @@ const MOST_UP: u128 = 12;
 const MOST_DOWN: u128 = 30;
 
 /// The powers of ten up to the greatest size.
-const POWERS: [u64; 13] = [
+static POWERS: [u64; 13] = [
     1,
     10,
     100,
@@ -61,8 +61,8 @@ struct Places {
 
 /// The value of a decimal word in millionths, with what is smaller dropped towards zero.
 ///
-/// The word has at most 30 bytes: an optional sign, digits with at most one point, and optionally an exponent. The value
-/// lies from -1,000,000 to 1,000,000 units.
+/// The word has at most 30 bytes: an optional sign, digits with at most one point, and optionally an exponent. A word of
+/// another form is `NotNumber`. The value lies from -1,000,000 to 1,000,000 units, or else it is `OutOfRange`.
 pub fn read_micro(word: &[u8]) -> Result<Micro, NumberFault>
     ensures { MatchResult result (λ micro. micro_value word.now ≡ Ok micro.0)
         (λ fault. micro_value word.now ≡ Err fault) }
