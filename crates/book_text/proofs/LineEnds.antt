@@ -1,5 +1,5 @@
 -- What stands where a line ends.
-use Rattle.std.proofs.Common.{◌≡◌, ◌⊎◌, ℕ, zero, suc, ◌+◌, ◌-◌, ◌<◌, ◌≤◌, Bool, true, false, cond, not, eqb, min, List, [], ◌∷◌, length, get_or, drop, refl, sym, ◌∙◌, ap, subst, inl, inr, arith, length-drop}
+use Rattle.std.proofs.Common.{◌≡◌, ◌⊎◌, ℕ, suc, ◌+◌, ◌-◌, ◌<◌, ◌≤◌, Bool, true, false, cond, not, eqb, List, [], ◌∷◌, length, get_or, drop, refl, sym, ◌∙◌, ap, subst, inl, inr, arith, length-drop}
 use Rattle.std.specs.List.{position_or_len}
 use Rattle.std.proofs.lemmas.Bool.{eqb-true}
 use Rattle.std.proofs.lemmas.List.{get_or-drop}
@@ -23,6 +23,7 @@ pub behind_end : (text : List ℕ) (start end next : ℕ) → IsLineAt text star
 behind_end text start end next line = by_place cases where
   cases : (length text ≤ end + 1) ⊎ (end + 1 < length text + 0)
   cases = grind arith
+
   by_place : (length text ≤ end + 1) ⊎ (end + 1 < length text + 0) → (next ≡ length text) ⊎ (get_or text (next - 1) 0 ≡ 10)
   by_place (inl last) = inl (omega (arith, line.followed))
   by_place (inr inner) =

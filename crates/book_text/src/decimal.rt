@@ -19,8 +19,14 @@ pub struct Micro(pub i64);
 /// The greatest size of a number, in millionths.
 const MOST_MICRO: u64 = 1_000_000_000_000;
 
+/// The most places up that keep a number other than 0 in range.
+const MOST_UP: u128 = 12;
+
+/// The most places down that can leave something of a number.
+const MOST_DOWN: u128 = 30;
+
 /// The powers of ten up to the greatest size.
-const POWERS: [u64; 13] = [
+static POWERS: [u64; 13] = [
     1,
     10,
     100,
@@ -55,8 +61,8 @@ struct Places {
 
 /// The value of a decimal word in millionths, with what is smaller dropped towards zero.
 ///
-/// The word has at most 30 bytes: an optional sign, digits with at most one point, and optionally an exponent. The value
-/// lies from -1,000,000 to 1,000,000 units.
+/// The word has at most 30 bytes: an optional sign, digits with at most one point, and optionally an exponent. A word of
+/// another form is `NotNumber`. The value lies from -1,000,000 to 1,000,000 units, or else it is `OutOfRange`.
 pub fn read_micro(word: &[u8]) -> Result<Micro, NumberFault>
     ensures { MatchResult result (λ micro. micro_value word.now ≡ Ok micro.0)
         (λ fault. micro_value word.now ≡ Err fault) }
@@ -197,7 +203,7 @@ fn raised(number: u128, places: u128) -> Option<u64>
     requires { 0 < number }
     ensures { SomeIff result (number * 10 ^ places ≤ 10 ^ 12) (number * 10 ^ places) }
 {
-    if places > 12 || number > u128::from(MOST_MICRO) {
+    if places > MOST_UP || number > u128::from(MOST_MICRO) {
         return None;
     }
     within_range(number * u128::from(POWERS[places as usize]))
@@ -207,7 +213,7 @@ fn lowered(number: u128, places: u128) -> Option<u64>
     requires { number < 10 ^ 30 }
     ensures { SomeIff result (number / 10 ^ places ≤ 10 ^ 12) (number / 10 ^ places) }
 {
-    if places > 30 {
+    if places > MOST_DOWN {
         return Some(0);
     }
     within_range(number / 10u128.pow(places as u32))

@@ -18,7 +18,9 @@ pub(crate) const MOST_BYTES: usize = 30;
 /// The greatest value of a whole word.
 const MOST_WHOLE: u64 = 1 << 40;
 
-/// The value of a whole word, 1 to 30 digits and nothing else, of at most 2^40.
+/// The value of a whole word: 1 to 30 digits and nothing else, or it is `NotNumber`.
+///
+/// The value is at most 2^40, or else it is `OutOfRange`.
 pub fn read_whole(word: &[u8]) -> Result<u64, NumberFault>
     ensures { result ≡ whole_value word.now }
 {
