@@ -1,0 +1,135 @@
+ghost use Rattle.std.specs.Prelude.{◌≡◌, ◌-◌, ◌^◌, ◌++◌, [], ◌∷◌, min, OnOk, OnErr};
+ghost use Rattle.relax_system.specs.System.{near_weight, total_weight};
+
+use book_text::Memory;
+use std::alloc::Global;
+use std::marker::Model;
+
+/// A neighbour of a point and the weight of the pair.
+#[derive(Clone, Copy, Debug, PartialEq, Eq)]
+pub struct Near {
+    pub point: u32,
+    pub weight: u64,
+}
+
+/// The neighbours of a point. A neighbour may stand in several entries.
+#[derive(Drop)]
+pub struct NearList {
+    items: Vec<Near>,
+    // the sum of the weights, or the greatest u64 where it is more
+    weight: u64,
+}
+
+impl Model for NearList {
+    ghost use Rattle.std.specs.Prelude.{◌≡◌, ◌-◌, ◌^◌, List, min};
+    ghost use Rattle.relax_system.specs.declared.points.Near.{Near};
+
+    ghost Value = { List Near };
+
+    ghost use Rattle.relax_system.specs.System.{near_weight};
+
+    ghost view = { λ l. l.items.items };
+
+    ghost invariant = { λ l. l.weight ≡ min (near_weight l.items.items) (2 ^ 64 - 1) };
+}
+
+impl NearList {
+    /// No neighbour. It takes no memory.
+    pub fn new(alloc: Global) -> NearList
+        ensures { result ≡ [] }
+    {
+        NearList {
+            items: Vec::new(alloc),
+            weight: 0,
+        }
+    }
+
+    /// Appends a neighbour. On want of memory the list is as before.
+    pub fn push(&mut self, item: Near) -> Result<(), Memory>
+        ensures pushed { OnOk result (self.new ≡ self.old ++ item ∷ []) }
+        ensures kept { OnErr result (self.new ≡ self.old) }
+    {
+        self.items.push(item)?;
+        self.weight = self.weight.saturating_add(item.weight);
+        Ok(())
+    }
+
+    /// The sum of the weights, or the greatest u64 where it is more.
+    pub(crate) fn weight(&self) -> u64
+        ensures { result ≡ min (near_weight self.now) (2 ^ 64 - 1) }
+    {
+        self.weight
+    }
+
+    /// The neighbours.
+    pub fn as_slice(&self) -> &[Near]
+        ensures { result.now ≡ self.now }
+    {
+        &self.items
+    }
+}
+
+/// A point of a system.
+#[derive(Drop)]
+pub struct Point {
+    /// The bottom of the box.
+    pub lo: u64,
+    /// The top of the box.
+    pub hi: u64,
+    /// The neighbours, with the weights of the pairs.
+    pub near: NearList,
+    /// The total weight of the point's constants.
+    pub anchor: u64,
+    /// The sum of weight times coordinate over the point's constants.
+    pub anchored: u128,
+}
+
+impl Point {
+    /// The total weight, or the greatest u64 where it is more.
+    pub(crate) fn total_weight(&self) -> u64
+        ensures { result ≡ min (total_weight self.now) (2 ^ 64 - 1) }
+    {
+        self.anchor.saturating_add(self.near.weight())
+    }
+}
+
+/// The points of a system.
+#[derive(Drop)]
+pub struct Points {
+    pub(crate) items: Vec<Point>,
+}
+
+impl Model for Points {
+    ghost use Rattle.std.specs.Prelude.{List};
+    ghost use Rattle.relax_system.specs.declared.points.Point.{Point};
+
+    ghost Value = { List Point };
+
+    ghost view = { λ l. l.items.items };
+}
+
+impl Points {
+    /// No point. It takes no memory.
+    pub fn new(alloc: Global) -> Points
+        ensures { result ≡ [] }
+    {
+        Points {
+            items: Vec::new(alloc),
+        }
+    }
+
+    /// Appends a point. On want of memory the list is as before.
+    pub fn push(&mut self, item: Point) -> Result<(), Memory>
+        ensures pushed { OnOk result (self.new ≡ self.old ++ item ∷ []) }
+        ensures kept { OnErr result (self.new ≡ self.old) }
+    {
+        Ok(self.items.push(item)?)
+    }
+
+    /// The points.
+    pub fn as_slice(&self) -> &[Point]
+        ensures { result.now ≡ self.now }
+    {
+        &self.items
+    }
+}
