@@ -156,7 +156,7 @@ module _ (was counts : List ℕ) (i total : ℕ) (s : IsSummed was counts i tota
       record {
         so_far = next;
         summed = below_more (λ q. get_or (set counts i (total + get_or counts i 0)) q 0 ≡ sum (take (q + 1) was)) i
-          (λ q h. let n : q ≢ i = omega arith in get_or-set_other counts i q (total + get_or counts i 0) 0 n ∙ s.summed q h)
-          (here ∙ next);
-        rest = λ q h. let n : q ≢ i = omega arith in get_or-set_other counts i q (total + get_or counts i 0) 0 n ∙ s.rest q (omega arith)
+            (λ q h. let n : q ≢ i = omega arith in get_or-set_other counts i q (total + get_or counts i 0) 0 n ∙ s.summed q h)
+            (here ∙ next);
+        rest = λ q h. let n : q ≢ i = omega arith in get_or-set_other counts i q (total + get_or counts i 0) 0 n ∙ s.rest q (omega arith);
       }
