@@ -1,0 +1,6 @@
+pub mod Cause
+pub mod Files
+pub mod Folder
+pub mod Sink
+pub mod Store
+pub mod Memory

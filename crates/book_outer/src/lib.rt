@@ -1,13 +1,31 @@
-// A library with one function.
+//! The outside of the placer: a folder of files, a sink for the report, and a gate that watches the crew.
+//!
+//! Everything above is written over the traits `Folder`, `Sink` and `Gate`, so that its contracts can say what is read and
+//! written. The meanings of a folder are the files that it tells, the file being read and the one being written, and four
+//! counts that never fall. `MemFolder` and `MemSink` are for tests; `HostFolder` and `StdSink` are the trusted edge over
+//! the real folder and standard output, and tell nothing of content.
+//!
+//! The contract: an answer Failed comes only where a count of faults rose in that call.
 #![tactic(auto)]
 
-ghost use Rattle.std.specs.Prelude.{◌≡◌};
-ghost use Rattle.book_outer.specs.Echo.{echo_of};
+mod calm;
+mod folder;
+mod gate;
+mod host;
+mod lists;
+mod memory;
+mod sink;
+mod store;
+mod trouble;
 
-// The `ensures` clause is the contract: what `echo` returns is `echo_of` of its argument, a definition
-// in `specs/Echo.antt`, which a caller's clause can cite too.
-pub fn echo(x: usize) -> usize
-    ensures { result ≡ echo_of x }
-{
-    x
-}
+pub use calm::{CalmFolder, CalmSink};
+pub use folder::Folder;
+pub use gate::{Gate, OpenGate};
+pub use host::{HostFolder, StdSink};
+pub use lists::{Calls, Files, Words};
+pub use memory::{MemFolder, MemSink};
+pub use sink::Sink;
+pub use trouble::Trouble;
+
+#[cfg(test)]
+mod tests;

@@ -1,0 +1,13 @@
+/// A watcher of a crew's first sweep. The seats of a crew share it.
+pub trait Gate: Sync {
+    /// Called after a seat's relaxation of a point. It returns, and changes no answer.
+    fn pass(&self, seat: usize, point: usize);
+}
+
+/// The gate that does nothing.
+#[derive(Clone, Copy, Debug)]
+pub struct OpenGate;
+
+impl Gate for OpenGate {
+    fn pass(&self, _seat: usize, _point: usize) {}
+}
