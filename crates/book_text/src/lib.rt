@@ -6,11 +6,13 @@
 //! The contract: the lines, words and values are exactly those of `specs/Lines.antt` and `specs/Whole.antt`.
 #![tactic(auto)]
 
+mod decimal;
 mod line;
 mod memory;
 mod number;
 
-pub use line::{Line, Span, next_line, next_word};
+pub use decimal::{Micro, canonical_is_word, canonical_reads_back, put_micro, read_micro};
+pub use line::{Line, Span, count_lines, next_line, next_word, spaced_words};
 pub use memory::Memory;
 pub use number::{NumberFault, read_whole};
 
