@@ -62,6 +62,8 @@ impl Folder for CalmFolder {
 
     ghost write_faults = { λ _. 0 };
 
+    ghost untold = { λ folder told. Prim.cc };
+
     fn begin(&mut self, name: &str) -> Result<(), Trouble>
         ensures answer { result ≡ (if is_some (content self.old.files name.now) then Ok tt else Err Trouble.Failed) }
         ensures begins { Begins (Some self.old.files) name.now result self.new.reading }

@@ -60,6 +60,10 @@ impl<R: Files + Drop> Folder for HostFolder<R> {
 
     ghost write_faults = { λ f. f.write_faults };
 
+    ghost use Rattle.std.specs.Prelude.{refl};
+
+    ghost untold = { λ _ _. refl };
+
     fn begin(&mut self, name: &str) -> Result<(), Trouble> {
         self.begun = self.begun.saturating_add(1);
         self.reading = None;

@@ -92,6 +92,8 @@ impl Folder for MemFolder {
 
     ghost write_faults = { λ m. m.write_faults };
 
+    ghost untold = { λ folder told. Prim.cc };
+
     fn begin(&mut self, name: &str) -> Result<(), Trouble>
         ensures answer { result ≡ (if is_some (content self.old.files name.now) && not (is_to_fail self.old.failing self.old.calls)
             then Ok tt else Err Trouble.Failed) }

@@ -4,6 +4,7 @@ pub mod Places
 pub mod TextLines
 pub mod NextWord
 pub mod NextLine
+mod LineEnds
 pub mod Digits
 pub mod Powers
 pub mod NumberWords

@@ -9,8 +9,8 @@ use Rattle.book_outer.proofs.calm.CalmFolderFolder.begin.Goals as goal
 -- a call that fails exactly where the name is absent, whose count is that of absent names
 counted : (there : Bool) (before now : ℕ) (result : Result (Unit {0}) Trouble) → result ≡ (if there && not false then Ok tt else Err Failed) → now ≡ (if there then before else one_more before)
     → before ≤ now → HasCause before now result
-counted true before now result answer count later = record { later = later; failed = λ failed. absurd (cc); kept = λ _. count }
-counted false before now result answer count later = record { later = later; failed = λ _. omega (arith, count); kept = λ fine. absurd (fine answer) }
+counted true before now result answer count later = record { later = later; failed = λ failed. absurd (cc); kept = λ _. count; bounded = λ least. omega (arith, count) }
+counted false before now result answer count later = record { later = later; failed = λ _. omega (arith, count); kept = λ fine. absurd (fine answer); bounded = λ least. omega (arith, count) }
 
 pub returns-clause-cause : goal.returns-clause-cause
 returns-clause-cause c =
