@@ -172,3 +172,39 @@ fn write_whole<F: Write>(to: &mut F, bytes: &[u8]) -> Result<(), Trouble>
     }
     Ok(())
 }
+
+#[cfg(test)]
+mod tests {
+    use super::*;
+
+    // Takes three bytes at a write. The second write is interrupted, the fourth takes nothing, and the fifth wants memory.
+    #[derive(Drop)]
+    struct Slow {
+        writes: u8,
+    }
+
+    impl Write for Slow {
+        fn write(&mut self, buf: &[u8]) -> io::Result<usize> {
+            self.writes = self.writes.saturating_add(1);
+            match self.writes {
+                2 => Err(io::Error::from(ErrorKind::Interrupted)),
+                4 => Ok(0),
+                5 => Err(io::Error::from(ErrorKind::OutOfMemory)),
+                _ => Ok(buf.len().min(3)),
+            }
+        }
+
+        fn flush(&mut self) -> io::Result<()> {
+            Ok(())
+        }
+    }
+
+    #[test]
+    fn pieces_are_written_until_a_fault(rt: HostRuntime) {
+        let mut slow = Slow { writes: 0 };
+        assert!(rt; write_whole(&mut slow, b"six of") == Ok(()));
+        assert!(rt; slow.writes == 3);
+        assert!(rt; write_whole(&mut slow, b"six") == Err(Trouble::Failed));
+        assert!(rt; write_whole(&mut slow, b"six") == Err(Trouble::Memory));
+    }
+}
