@@ -6,7 +6,7 @@ use Rattle.std.proofs.lemmas.Bool.{leb-true, le-leb}
 use Rattle.book_text.specs.Whole.{whole_value}
 use Rattle.book_text.specs.declared.number.NumberFault.{NumberFault}
 use Rattle.narrow_form.specs.Narrow.{IsNumber, keyed}
-use Rattle.narrow_form.specs.Reading.{same_words, number_in, number_of, keyed_in, Lines, line_at, expected, keyed_at, ended}
+use Rattle.narrow_form.specs.Reading.{same_words, number_in, number_of, keyed_in, WordLines, line_at, expected, keyed_at, ended}
 use Rattle.narrow_form.proofs.Finding.{bind_some, then_some}
 
 pub same_words-Decides : (a b : List (List ℕ)) → Decides (same_words a b) (a ≡ b)
@@ -55,16 +55,16 @@ pub keyed_in-whole : (key word : List ℕ) (n : ℕ) → IsNumber word n → key
 unfolding keyed_in
 keyed_in-whole key word n h = rw (bytes_eq-refl key) (number-whole word n h)
 
-pub line_at-sound : (lines : Lines) (line : List (List ℕ) × Lines) → line_at lines ≡ Some line → lines ≡ line.0 ∷ line.1
+pub line_at-sound : (lines : WordLines) (line : List (List ℕ) × WordLines) → line_at lines ≡ Some line → lines ≡ line.0 ∷ line.1
 unfolding line_at
 line_at-sound [] line e = absurd cc
 line_at-sound (words ∷ lines) line e = let same : (words, lines) ≡ line = cc in rw (← same) refl
 
-pub line_at-whole : (words : List (List ℕ)) (lines : Lines) → line_at (words ∷ lines) ≡ Some (words, lines)
+pub line_at-whole : (words : List (List ℕ)) (lines : WordLines) → line_at (words ∷ lines) ≡ Some (words, lines)
 unfolding line_at
 line_at-whole words lines = refl
 
-pub expected-sound : (wanted : List (List ℕ)) (lines left : Lines) → expected wanted lines ≡ Some left → lines ≡ wanted ∷ left
+pub expected-sound : (wanted : List (List ℕ)) (lines left : WordLines) → expected wanted lines ≡ Some left → lines ≡ wanted ∷ left
 unfolding expected
 expected-sound wanted lines left e =
     let line = bind_some (line_at lines) _ left e in
@@ -73,16 +73,16 @@ expected-sound wanted lines left e =
     let reads = (same_words-Decides line.0.0 wanted).0 g.0 in
     cc
 
-pub expected-whole : (wanted : List (List ℕ)) (left : Lines) → expected wanted (wanted ∷ left) ≡ Some left
+pub expected-whole : (wanted : List (List ℕ)) (left : WordLines) → expected wanted (wanted ∷ left) ≡ Some left
 unfolding expected
 expected-whole wanted left = rw (line_at-whole wanted left, same_words-refl wanted) refl
 
-pub record ReadsKeyed (key : List ℕ) (lines : Lines) (n : ℕ × Lines) : Type 0 where
+pub record ReadsKeyed (key : List ℕ) (lines : WordLines) (n : ℕ × WordLines) : Type 0 where
   pub word : List ℕ
   pub told : lines ≡ keyed key word ∷ n.1
   pub number : IsNumber word n.0
 
-pub keyed_at-sound : (key : List ℕ) (lines : Lines) (n : ℕ × Lines) → keyed_at key lines ≡ Some n → ReadsKeyed key lines n
+pub keyed_at-sound : (key : List ℕ) (lines : WordLines) (n : ℕ × WordLines) → keyed_at key lines ≡ Some n → ReadsKeyed key lines n
 unfolding keyed_at
 keyed_at-sound key lines n e =
     let line = bind_some (line_at lines) _ n e in
@@ -90,13 +90,13 @@ keyed_at-sound key lines n e =
     let read = keyed_in-sound key line.0.0 number.0 number.1 in
     let here = line_at-sound lines line.0 line.1 in
     let same : (number.0, line.0.1) ≡ n = cc in
-    subst (λ (m : ℕ × Lines). ReadsKeyed key lines m) same (record { word = read.0; told = cc; number = read.2 })
+    subst (λ (m : ℕ × WordLines). ReadsKeyed key lines m) same (record { word = read.0; told = cc; number = read.2 })
 
-pub keyed_at-whole : (key word : List ℕ) (n : ℕ) (left : Lines) → IsNumber word n → keyed_at key (keyed key word ∷ left) ≡ Some (n, left)
+pub keyed_at-whole : (key word : List ℕ) (n : ℕ) (left : WordLines) → IsNumber word n → keyed_at key (keyed key word ∷ left) ≡ Some (n, left)
 unfolding keyed_at
 keyed_at-whole key word n left h = rw (line_at-whole (keyed key word) left, keyed_in-whole key word n h) refl
 
-pub ended-sound : (lines left : Lines) → ended lines ≡ Some left → lines ≡ []
+pub ended-sound : (lines left : WordLines) → ended lines ≡ Some left → lines ≡ []
 unfolding ended
 ended-sound [] left e = refl
 ended-sound (words ∷ lines) left e = absurd cc

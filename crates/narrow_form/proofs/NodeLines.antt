@@ -9,10 +9,10 @@ use Rattle.std.proofs.lemmas.List.Quantifiers.{all_pairs_push, position-Some}
 use Rattle.std.proofs.lemmas.List.Sums.{position_or_len_is, fails_before_first}
 use Rattle.std.proofs.lemmas.Slice.Eq.{bytes_eq-Decides}
 use Rattle.narrow_form.specs.Narrow.{NodeEntry, header, keyed, terminal_mark, IsNodeLine, IsNodesText, IsNumber, no_node, node_at, word_lines}
-use Rattle.narrow_form.specs.Reading.{number_of, terminal_in, node_in, named, Lines, line_at, expected, keyed_at, ended, times, next_node, nodes_of}
+use Rattle.narrow_form.specs.Reading.{number_of, terminal_in, node_in, named, WordLines, line_at, expected, keyed_at, ended, times, next_node, nodes_of}
 use Rattle.narrow_form.proofs.Finding.{Finds, bind_some, then_some, else_some}
 use Rattle.narrow_form.proofs.LineLemmas.{bytes_eq-refl, number-sound, number-whole, line_at-sound, line_at-whole, expected-sound, expected-whole, keyed_at-sound, keyed_at-whole, ended-sound, ended-whole}
-use Rattle.narrow_form.proofs.Times.{Reads, times-sound, times-whole}
+use Rattle.narrow_form.proofs.Times.{Reads, all-sound, times-whole}
 
 abbrev pub HaveTwoNames : NodeEntry → NodeEntry → Type 0
 HaveTwoNames a b = a.name ≢ b.name
@@ -93,7 +93,7 @@ node_in-whole words node h =
 
 -- ---- the lines
 
-next_node-sound : (before : List NodeEntry) (lines : Lines) (node : NodeEntry × Lines) → next_node before lines ≡ Some node
+next_node-sound : (before : List NodeEntry) (lines : WordLines) (node : NodeEntry × WordLines) → next_node before lines ≡ Some node
     → (words : List (List ℕ)) × (lines ≡ words ∷ node.1) × IsNodeLine words node.0 × (is_some (named before node.0.name) ≡ false)
 unfolding next_node
 next_node-sound before lines node e =
@@ -101,18 +101,18 @@ next_node-sound before lines node e =
     let read = bind_some (node_in line.0.0) _ node line.2 in
     let fresh = else_some (is_some (named before read.0.name)) (Some (read.0, line.0.1)) node read.2 in
     let same : (read.0, line.0.1) ≡ node = cc in
-    subst (λ (n : NodeEntry × Lines). (words : List (List ℕ)) × (lines ≡ words ∷ n.1) × IsNodeLine words n.0 × (is_some (named before n.0.name) ≡ false)) same
+    subst (λ (n : NodeEntry × WordLines). (words : List (List ℕ)) × (lines ≡ words ∷ n.1) × IsNodeLine words n.0 × (is_some (named before n.0.name) ≡ false)) same
     (line.0.0, line_at-sound lines line.0 line.1, node_in-sound line.0.0 read.0 read.1, fresh.0)
 
-nodes-sound : (before : List NodeEntry) (lines : Lines) (nodes : List NodeEntry) → Reads next_node before lines nodes → AreDistinct before → AllZip IsNodeLine lines nodes × AreDistinct (before ++ nodes)
+nodes-sound : (before : List NodeEntry) (lines : WordLines) (nodes : List NodeEntry) → Reads next_node before lines nodes → AreDistinct before → AllZip IsNodeLine lines nodes × AreDistinct (before ++ nodes)
 nodes-sound before lines [] reads distinct =
-    (subst (λ (ls : Lines). AllZip IsNodeLine ls []) (sym reads) tt, subst AreDistinct (sym (append-nil before)) distinct)
+    (subst (λ (ls : WordLines). AllZip IsNodeLine ls []) (sym reads) tt, subst AreDistinct (sym (append-nil before)) distinct)
 nodes-sound before lines (node ∷ nodes) reads distinct =
     let here = next_node-sound before lines (node, reads.0) reads.1 in
     let more = nodes-sound (before ++ node ∷ []) reads.0 nodes reads.2 (all_pairs_push HaveTwoNames before node distinct (named-none before node.name here.3)) in
-    (subst (λ (ls : Lines). AllZip IsNodeLine ls (node ∷ nodes)) (sym here.1) (here.2, more.0), subst AreDistinct (append_assoc before (node ∷ []) nodes) more.1)
+    (subst (λ (ls : WordLines). AllZip IsNodeLine ls (node ∷ nodes)) (sym here.1) (here.2, more.0), subst AreDistinct (append_assoc before (node ∷ []) nodes) more.1)
 
-nodes-whole : (before : List NodeEntry) (lines : Lines) (nodes : List NodeEntry) → AllZip IsNodeLine lines nodes → AreDistinct (before ++ nodes) → Reads next_node before lines nodes
+nodes-whole : (before : List NodeEntry) (lines : WordLines) (nodes : List NodeEntry) → AllZip IsNodeLine lines nodes → AreDistinct (before ++ nodes) → Reads next_node before lines nodes
 unfolding next_node
 nodes-whole before [] [] each distinct = refl
 nodes-whole before [] (node ∷ nodes) each distinct = elim each [ ]
@@ -134,22 +134,19 @@ nodes_of-sound text nodes e =
     let here = expected-sound (header (codes "nodes")) (word_lines text) head.0 head.1 in
     let told = keyed_at-sound (codes "NumNodes") head.0 total.0 total.1 in
     let untold = keyed_at-sound (codes "NumTerminals") total.0.1 terminals.0 terminals.1 in
-    let read = times-sound next_node total.0.0 [] terminals.0.1 all.0 all.1 (ended-sound all.0.1 none.0 none.1) in
-    let same : read.0 ≡ nodes = cc in
-    let count : total.0.0 ≡ length read.0 = sym read.2 in
-    let good = nodes-sound [] terminals.0.1 read.0 read.3 (λ i j d lt past. absurd (omega arith)) in
-    subst (λ (ns : List NodeEntry). IsNodesText text ns) same
-    (record {
+    let read = all-sound next_node total.0.0 terminals.0.1 all.0 nodes all.1 (ended-sound all.0.1 none.0 none.1) none.2 in
+    let good = nodes-sound [] terminals.0.1 nodes read.1 (λ i j d lt past. absurd (omega arith)) in
+    record {
       total = told.word;
       terminals = untold.word;
       terminal_count = terminals.0.0;
       lines = terminals.0.1;
       told = cc (here, told.told, untold.told);
-      count = subst (IsNumber told.word) count told.number;
+      count = subst (IsNumber told.word) (sym read.0) told.number;
       unchecked = untold.number;
       each = good.0;
       distinct = good.1;
-    })
+    }
 
 nodes_of-whole : (text : List ℕ) (nodes : List NodeEntry) → IsNodesText text nodes → nodes_of (word_lines text) ≡ Some nodes
 unfolding nodes_of

@@ -8,10 +8,10 @@ use Rattle.std.proofs.lemmas.Slice.Eq.{bytes_eq-Decides}
 use Rattle.narrow_form.specs.declared.records.Node.{Node}
 use Rattle.narrow_form.specs.Views.{node_entry, node_entries}
 use Rattle.narrow_form.specs.Narrow.{NodeEntry, PlaceEntry, header, fixed_mark, IsPlaceLine, ArePlaceLines, IsPlText, no_node, node_at, word_lines}
-use Rattle.narrow_form.specs.Reading.{same_words, number_of, place_in, Lines, line_at, expected, ended, times, place_at, next_place, places_of}
+use Rattle.narrow_form.specs.Reading.{same_words, number_of, place_in, WordLines, line_at, expected, ended, times, place_at, next_place, places_of}
 use Rattle.narrow_form.proofs.Finding.{Finds, bind_some, then_some}
 use Rattle.narrow_form.proofs.LineLemmas.{same_words-Decides, same_words-refl, bytes_eq-refl, both_true, number-sound, number-whole, line_at-sound, line_at-whole, expected-sound, expected-whole, ended-sound, ended-whole}
-use Rattle.narrow_form.proofs.Times.{Reads, times-sound, times-whole}
+use Rattle.narrow_form.proofs.Times.{Reads, all-sound, times-whole}
 
 -- the words behind a node's coordinates
 abbrev marks_of : NodeEntry → List (List ℕ)
@@ -37,20 +37,20 @@ unfolding place_in
 place_in-whole node words place h =
     ap (place_in node) h.told ∙ rw (bytes_eq-refl node.name, same_words-refl (marks_of node), number-whole h.x place.x h.at_x, number-whole h.y place.y h.at_y) refl
 
-place_at-sound : (node : NodeEntry) (lines : Lines) (place : PlaceEntry × Lines) → place_at node lines ≡ Some place → (words : List (List ℕ)) × (lines ≡ words ∷ place.1) × IsPlaceLine node words place.0
+place_at-sound : (node : NodeEntry) (lines : WordLines) (place : PlaceEntry × WordLines) → place_at node lines ≡ Some place → (words : List (List ℕ)) × (lines ≡ words ∷ place.1) × IsPlaceLine node words place.0
 unfolding place_at
 place_at-sound node lines place e =
     let line = bind_some (line_at lines) _ place e in
     let read = bind_some (place_in node line.0.0) _ place line.2 in
     let same : (read.0, line.0.1) ≡ place = cc in
-    subst (λ (p : PlaceEntry × Lines). (words : List (List ℕ)) × (lines ≡ words ∷ p.1) × IsPlaceLine node words p.0) same
+    subst (λ (p : PlaceEntry × WordLines). (words : List (List ℕ)) × (lines ≡ words ∷ p.1) × IsPlaceLine node words p.0) same
     (line.0.0, line_at-sound lines line.0 line.1, place_in-sound node line.0.0 read.0 read.1)
 
 -- ---- the lines, behind those of the nodes that are done
 
-places-sound : (done nodes : List NodeEntry) (before : List PlaceEntry) (lines : Lines) (places : List PlaceEntry) → length done ≡ length before → length places ≡ length nodes
+places-sound : (done nodes : List NodeEntry) (before : List PlaceEntry) (lines : WordLines) (places : List PlaceEntry) → length done ≡ length before → length places ≡ length nodes
     → Reads (next_place (done ++ nodes)) before lines places → ArePlaceLines nodes lines places
-places-sound done [] before lines [] even len reads = subst (λ (ls : Lines). ArePlaceLines [] ls []) (sym reads) tt
+places-sound done [] before lines [] even len reads = subst (λ (ls : WordLines). ArePlaceLines [] ls []) (sym reads) tt
 places-sound done [] before lines (place ∷ places) even len reads = absurd (omega arith)
 places-sound done (node ∷ nodes) before lines [] even len reads = absurd (omega arith)
 places-sound done (node ∷ nodes) before lines (place ∷ places) even len reads =
@@ -59,9 +59,9 @@ places-sound done (node ∷ nodes) before lines (place ∷ places) even len read
     let shift : done ++ node ∷ nodes ≡ (done ++ node ∷ []) ++ nodes = sym (append_assoc done (node ∷ []) nodes) in
     let left = subst (λ (ns : List NodeEntry). Reads (next_place ns) (before ++ place ∷ []) reads.0 places) shift reads.2 in
     let more = places-sound (done ++ node ∷ []) nodes (before ++ place ∷ []) reads.0 places (omega (arith, length-append done (node ∷ []), length-append before (place ∷ []))) (omega arith) left in
-    subst (λ (ls : Lines). ArePlaceLines (node ∷ nodes) ls (place ∷ places)) (sym here.1) (here.2, more)
+    subst (λ (ls : WordLines). ArePlaceLines (node ∷ nodes) ls (place ∷ places)) (sym here.1) (here.2, more)
 
-places-whole : (done nodes : List NodeEntry) (before : List PlaceEntry) (lines : Lines) (places : List PlaceEntry) → length done ≡ length before
+places-whole : (done nodes : List NodeEntry) (before : List PlaceEntry) (lines : WordLines) (places : List PlaceEntry) → length done ≡ length before
     → ArePlaceLines nodes lines places → (length places ≡ length nodes) × Reads (next_place (done ++ nodes)) before lines places
 unfolding place_at
 places-whole done [] before [] [] even each = (refl, refl)
@@ -83,10 +83,8 @@ places_of-sound text nodes places e =
     let head = bind_some (expected (header (codes "pl")) (word_lines text)) _ places e in
     let all = bind_some (times (next_place nodes) (length nodes) [] head.0) _ places head.2 in
     let none = bind_some (ended all.0.1) _ places all.2 in
-    let read = times-sound (next_place nodes) (length nodes) [] head.0 all.0 all.1 (ended-sound all.0.1 none.0 none.1) in
-    let same : read.0 ≡ places = cc in
-    subst (λ (ps : List PlaceEntry). IsPlText text nodes ps) same
-    (record { lines = head.0; told = expected-sound (header (codes "pl")) (word_lines text) head.0 head.1; each = places-sound [] nodes [] head.0 read.0 refl read.2 read.3 })
+    let read = all-sound (next_place nodes) (length nodes) head.0 all.0 places all.1 (ended-sound all.0.1 none.0 none.1) none.2 in
+    record { lines = head.0; told = expected-sound (header (codes "pl")) (word_lines text) head.0 head.1; each = places-sound [] nodes [] head.0 places refl read.0 read.1 }
 
 places_of-whole : (text : List ℕ) (nodes : List NodeEntry) (places : List PlaceEntry) → IsPlText text nodes places → places_of nodes (word_lines text) ≡ Some places
 unfolding places_of
@@ -100,7 +98,7 @@ places_found text nodes = record { sound = places_of-sound text nodes; whole = p
 -- ---- the code's loop
 
 -- what is read with the node of the loop's turn is read for the next place
-pub in_turn : (P : Option (PlaceEntry × Lines) → Type 0) (nodes : List Node) (i : ℕ) (before : List PlaceEntry) (lines : Lines) (d : Node)
+pub in_turn : (P : Option (PlaceEntry × WordLines) → Type 0) (nodes : List Node) (i : ℕ) (before : List PlaceEntry) (lines : WordLines) (d : Node)
     → P (place_at (node_entry (get_or nodes i d)) lines) → node_entry d ≡ no_node → length before ≡ i → P (next_place (node_entries nodes) before lines)
 in_turn P nodes i before lines d read none even =
     let this : node_at (node_entries nodes) (length before) ≡ node_entry (get_or nodes i d) = rw (even, ← none) (get_or-map node_entry nodes i d) in

@@ -2,7 +2,7 @@
 use Rattle.std.proofs.Common.{◌≡◌, ℕ, ◌≤◌, ◌+◌, ◌*◌, true, leb, ◌&&◌, List, [], ◌∷◌, codes, Some, refl, ap, subst, ◌∙◌}
 use Rattle.std.proofs.lemmas.Bool.{leb-true, le-leb}
 use Rattle.narrow_form.specs.Narrow.{RowEntry, header, keyed, IsSclText, IsNumber, word_lines}
-use Rattle.narrow_form.specs.Reading.{same_words, number_of, subrow_in, subrow_at, Lines, line_at, expected, keyed_at, ended, begun, sizes_at, row_from, is_sound, row_of}
+use Rattle.narrow_form.specs.Reading.{same_words, number_of, subrow_in, subrow_at, WordLines, line_at, expected, keyed_at, ended, begun, sizes_at, row_from, is_sound, row_of}
 use Rattle.narrow_form.proofs.Finding.{Finds, bind_some, then_some}
 use Rattle.narrow_form.proofs.LineLemmas.{same_words-Decides, both_true, number-sound, number-whole, line_at-sound, line_at-whole, expected-sound, expected-whole, keyed_at-sound, keyed_at-whole, ended-sound, ended-whole}
 
@@ -33,16 +33,16 @@ subrow_in-sound (origin ∷ colon ∷ x ∷ many ∷ colon' ∷ sites ∷ []) su
     (record { x = x; sites = sites; told = cc (front, back); at_x = number-sound x at_x.0 at_x.1; many = number-sound sites at_sites.0 at_sites.1 })
 subrow_in-sound _ subrow e = absurd cc
 
-subrow_at-sound : (lines : Lines) (subrow : (ℕ × ℕ) × Lines) → subrow_at lines ≡ Some subrow → (words : List (List ℕ)) × (lines ≡ words ∷ subrow.1) × IsSubrow words subrow.0
+subrow_at-sound : (lines : WordLines) (subrow : (ℕ × ℕ) × WordLines) → subrow_at lines ≡ Some subrow → (words : List (List ℕ)) × (lines ≡ words ∷ subrow.1) × IsSubrow words subrow.0
 unfolding subrow_at
 subrow_at-sound lines subrow e =
     let line = bind_some (line_at lines) _ subrow e in
     let read = bind_some (subrow_in line.0.0) _ subrow line.2 in
     let same : (read.0, line.0.1) ≡ subrow = cc in
-    subst (λ (s : (ℕ × ℕ) × Lines). (words : List (List ℕ)) × (lines ≡ words ∷ s.1) × IsSubrow words s.0) same
+    subst (λ (s : (ℕ × ℕ) × WordLines). (words : List (List ℕ)) × (lines ≡ words ∷ s.1) × IsSubrow words s.0) same
     (line.0.0, line_at-sound lines line.0 line.1, subrow_in-sound line.0.0 read.0 read.1)
 
-subrow_at-whole : (x sites : List ℕ) (m n : ℕ) (lines : Lines) → IsNumber x m → IsNumber sites n → subrow_at (subrow_line x sites ∷ lines) ≡ Some ((m, n), lines)
+subrow_at-whole : (x sites : List ℕ) (m n : ℕ) (lines : WordLines) → IsNumber x m → IsNumber sites n → subrow_at (subrow_line x sites ∷ lines) ≡ Some ((m, n), lines)
 unfolding subrow_at subrow_in
 subrow_at-whole x sites m n lines p q = rw (line_at-whole (subrow_line x sites) lines, number-whole x m p, number-whole sites n q) refl
 
@@ -54,18 +54,18 @@ one_row = keyed (codes "NumRows") (codes "1")
 abbrev core_row : List (List ℕ)
 core_row = codes "CoreRow" ∷ codes "Horizontal" ∷ []
 
-begun-sound : (lines left : Lines) → begun lines ≡ Some left → lines ≡ header (codes "scl") ∷ one_row ∷ core_row ∷ left
+begun-sound : (lines left : WordLines) → begun lines ≡ Some left → lines ≡ header (codes "scl") ∷ one_row ∷ core_row ∷ left
 unfolding begun
 begun-sound lines left e =
     let a = bind_some (expected (header (codes "scl")) lines) _ left e in
     let b = bind_some (expected one_row a.0) _ left a.2 in
     cc (expected-sound (header (codes "scl")) lines a.0 a.1, expected-sound one_row a.0 b.0 b.1, expected-sound core_row b.0 left b.2)
 
-begun-whole : (left : Lines) → begun (header (codes "scl") ∷ one_row ∷ core_row ∷ left) ≡ Some left
+begun-whole : (left : WordLines) → begun (header (codes "scl") ∷ one_row ∷ core_row ∷ left) ≡ Some left
 unfolding begun
 begun-whole left = rw (expected-whole (header (codes "scl")) (one_row ∷ core_row ∷ left), expected-whole one_row (core_row ∷ left)) (expected-whole core_row left)
 
-record AreSizes (lines : Lines) (sizes : (ℕ × ℕ × ℕ × ℕ) × Lines) : Type 0 where
+record AreSizes (lines : WordLines) (sizes : (ℕ × ℕ × ℕ × ℕ) × WordLines) : Type 0 where
   y : List ℕ
   height : List ℕ
   width : List ℕ
@@ -76,7 +76,7 @@ record AreSizes (lines : Lines) (sizes : (ℕ × ℕ × ℕ × ℕ) × Lines) : 
   wide : IsNumber width sizes.0.2
   apart : IsNumber spacing sizes.0.3
 
-sizes_at-sound : (lines : Lines) (sizes : (ℕ × ℕ × ℕ × ℕ) × Lines) → sizes_at lines ≡ Some sizes → AreSizes lines sizes
+sizes_at-sound : (lines : WordLines) (sizes : (ℕ × ℕ × ℕ × ℕ) × WordLines) → sizes_at lines ≡ Some sizes → AreSizes lines sizes
 unfolding sizes_at
 sizes_at-sound lines sizes e =
     let y = bind_some (keyed_at (codes "Coordinate") lines) _ sizes e in
@@ -88,7 +88,7 @@ sizes_at-sound lines sizes e =
     let c = keyed_at-sound (codes "Sitewidth") height.0.1 width.0 width.1 in
     let d = keyed_at-sound (codes "Sitespacing") width.0.1 spacing.0 spacing.1 in
     let same : ((y.0.0, height.0.0, width.0.0, spacing.0.0), spacing.0.1) ≡ sizes = cc in
-    subst (λ (s : (ℕ × ℕ × ℕ × ℕ) × Lines). AreSizes lines s) same
+    subst (λ (s : (ℕ × ℕ × ℕ × ℕ) × WordLines). AreSizes lines s) same
     (record { y = a.word; height = b.word; width = c.word; spacing = d.word; told = cc (a.told, b.told, c.told, d.told); at_y = a.number; high = b.number; wide = c.number; apart = d.number })
 
 -- ---- the text

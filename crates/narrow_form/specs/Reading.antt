@@ -109,37 +109,37 @@ subrow_in (origin ∷ colon ∷ x ∷ many ∷ colon' ∷ sites ∷ []) = if sam
 subrow_in _ = None
 
 -- lines of words
-abbrev pub Lines : Type 0
-Lines = List (List (List ℕ))
+abbrev pub WordLines : Type 0
+WordLines = List (List (List ℕ))
 
 -- the next line's words are taken off the lines that are left, or none is left
-abbrev pub TakesLine : Bool → Lines → List (List ℕ) → Lines → Type 0
+abbrev pub TakesLine : Bool → WordLines → List (List ℕ) → WordLines → Type 0
 TakesLine true old words new = old ≡ words ∷ new
 TakesLine false old words new = old ≡ []
 
 -- the next line, and those behind it
-unfoldable pub line_at : Lines → Option (List (List ℕ) × Lines)
+unfoldable pub line_at : WordLines → Option (List (List ℕ) × WordLines)
 line_at [] = None
 line_at (words ∷ lines) = Some (words, lines)
 
 -- the lines behind one that reads so
-unfoldable pub expected : List (List ℕ) → Lines → Option Lines
+unfoldable pub expected : List (List ℕ) → WordLines → Option WordLines
 expected wanted lines = do
   line ← line_at lines
   if same_words line.0 wanted then Some line.1 else None
 
-unfoldable pub keyed_at : List ℕ → Lines → Option (ℕ × Lines)
+unfoldable pub keyed_at : List ℕ → WordLines → Option (ℕ × WordLines)
 keyed_at key lines = do
   line ← line_at lines
   n ← keyed_in key line.0
   Some (n, line.1)
 
 -- no line is left
-unfoldable pub ended : Lines → Option Lines
+unfoldable pub ended : WordLines → Option WordLines
 ended [] = Some []
 ended (words ∷ lines) = None
 
-unfoldable pub names_of : Lines → Option AuxNames
+unfoldable pub names_of : WordLines → Option AuxNames
 names_of lines = do
   line ← line_at lines
   names ← names_in line.0
@@ -147,20 +147,20 @@ names_of lines = do
   Some names
 
 -- so many items, each read behind those before it, and the lines behind them
-unfoldable pub times : {A : Type 0} → (List A → Lines → Option (A × Lines)) → ℕ → List A → Lines → Option (List A × Lines)
+unfoldable pub times : {A : Type 0} → (List A → WordLines → Option (A × WordLines)) → ℕ → List A → WordLines → Option (List A × WordLines)
 times step zero before lines = Some (before, lines)
 times step (suc n) before lines = do
   item ← step before lines
   times step n (before ++ item.0 ∷ []) item.1
 
 -- a node whose name none before it has
-unfoldable pub next_node : List NodeEntry → Lines → Option (NodeEntry × Lines)
+unfoldable pub next_node : List NodeEntry → WordLines → Option (NodeEntry × WordLines)
 next_node before lines = do
   line ← line_at lines
   node ← node_in line.0
   if is_some (named before node.name) then None else Some (node, line.1)
 
-unfoldable pub nodes_of : Lines → Option (List NodeEntry)
+unfoldable pub nodes_of : WordLines → Option (List NodeEntry)
 nodes_of lines = do
   lines ← expected (header (codes "nodes")) lines
   total ← keyed_at (codes "NumNodes") lines
@@ -169,14 +169,14 @@ nodes_of lines = do
   none ← ended nodes.1
   Some nodes.0
 
-unfoldable pub pin_at : List NodeEntry → Lines → Option (ℕ × Lines)
+unfoldable pub pin_at : List NodeEntry → WordLines → Option (ℕ × WordLines)
 pin_at nodes lines = do
   line ← line_at lines
   i ← pin_in nodes line.0
   Some (i, line.1)
 
 -- a degree line, and two pin lines of two different nodes
-unfoldable pub next_net : List NodeEntry → Lines → Option (NetEntry × Lines)
+unfoldable pub next_net : List NodeEntry → WordLines → Option (NetEntry × WordLines)
 next_net nodes lines = do
   degree ← line_at lines
   if is_degree degree.0 then (do
@@ -185,7 +185,7 @@ next_net nodes lines = do
     if first.0 == second.0 then None else Some (record { first = first.0; second = second.0 }, second.1)) else None
 
 -- the nets, whether each node that is no terminal stands in one or not
-unfoldable pub nets_of : List NodeEntry → Lines → Option (List NetEntry)
+unfoldable pub nets_of : List NodeEntry → WordLines → Option (List NetEntry)
 nets_of nodes lines = do
   lines ← expected (header (codes "nets")) lines
   total ← keyed_at (codes "NumNets") lines
@@ -196,24 +196,24 @@ nets_of nodes lines = do
     Some nets.0) else None
 
 -- the place of a node, and the lines behind its line
-unfoldable pub place_at : NodeEntry → Lines → Option (PlaceEntry × Lines)
+unfoldable pub place_at : NodeEntry → WordLines → Option (PlaceEntry × WordLines)
 place_at node lines = do
   line ← line_at lines
   place ← place_in node line.0
   Some (place, line.1)
 
 -- the place of the first node that none before is the place of
-abbrev pub next_place : List NodeEntry → List PlaceEntry → Lines → Option (PlaceEntry × Lines)
+abbrev pub next_place : List NodeEntry → List PlaceEntry → WordLines → Option (PlaceEntry × WordLines)
 next_place nodes before lines = place_at (node_at nodes (length before)) lines
 
-unfoldable pub places_of : List NodeEntry → Lines → Option (List PlaceEntry)
+unfoldable pub places_of : List NodeEntry → WordLines → Option (List PlaceEntry)
 places_of nodes lines = do
   lines ← expected (header (codes "pl")) lines
   places ← times (next_place nodes) (length nodes) [] lines
   none ← ended places.1
   Some places.0
 
-unfoldable pub subrow_at : Lines → Option ((ℕ × ℕ) × Lines)
+unfoldable pub subrow_at : WordLines → Option ((ℕ × ℕ) × WordLines)
 subrow_at lines = do
   line ← line_at lines
   subrow ← subrow_in line.0
@@ -224,14 +224,14 @@ abbrev pub is_sound : RowEntry → Bool
 is_sound row = nat_le 1 row.height && (nat_le 1 row.width && (nat_le 1 row.spacing && (nat_le 1 row.sites && nat_le (row.x + row.sites * row.spacing) 1000000)))
 
 -- the lines of the one row
-unfoldable pub begun : Lines → Option Lines
+unfoldable pub begun : WordLines → Option WordLines
 begun lines = do
   lines ← expected (header (codes "scl")) lines
   lines ← expected (keyed (codes "NumRows") (codes "1")) lines
   expected (codes "CoreRow" ∷ codes "Horizontal" ∷ []) lines
 
 -- the row's lower edge, its height, and its sites' width and spacing
-unfoldable pub sizes_at : Lines → Option ((ℕ × ℕ × ℕ × ℕ) × Lines)
+unfoldable pub sizes_at : WordLines → Option ((ℕ × ℕ × ℕ × ℕ) × WordLines)
 sizes_at lines = do
   y ← keyed_at (codes "Coordinate") lines
   height ← keyed_at (codes "Height") y.1
@@ -242,7 +242,7 @@ sizes_at lines = do
 abbrev pub row_from : ℕ × ℕ × ℕ × ℕ → ℕ × ℕ → RowEntry
 row_from sizes subrow = record { y = sizes.0; height = sizes.1; width = sizes.2; spacing = sizes.3; x = subrow.0; sites = subrow.1 }
 
-unfoldable pub row_of : Lines → Option RowEntry
+unfoldable pub row_of : WordLines → Option RowEntry
 row_of lines = do
   lines ← begun lines
   sizes ← sizes_at lines
