@@ -9,6 +9,7 @@
 #![tactic(auto)]
 
 mod certificate;
+mod reading;
 mod verdict;
 
 pub use certificate::check;
