@@ -1,5 +1,5 @@
 -- The steps of the aux reader.
-use Rattle.std.proofs.Common.{◌≡◌, Bool, false, true, List, [], ◌∷◌, ◌++◌, Result, Ok, Err, Option, Some, None, is_some, option_map, option_to_list, ap, ◌∙◌}
+use Rattle.std.proofs.Common.{◌≡◌, false, List, [], ◌∷◌, ◌++◌, Ok, Err, Option, Some, None, is_some, option_map, option_to_list, ap, ◌∙◌}
 use Rattle.book_text.specs.Lines.{NumberedLine}
 use Rattle.book_files.specs.declared.fault.TextKind.{TextKind}
 use Rattle.book_files.specs.declared.records.AuxFile.{AuxFile}

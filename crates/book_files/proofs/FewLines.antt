@@ -1,5 +1,5 @@
 -- A text has no more lines than bytes.
-use Rattle.std.proofs.Common.{◌≡◌, ◌==◌, ℕ, ◌+◌, ◌≤◌, ◌<◌, Bool, true, false, if◌then◌else◌, List, [], ◌∷◌, length, filter, arith, suc}
+use Rattle.std.proofs.Common.{◌==◌, ℕ, ◌≤◌, Bool, true, false, if◌then◌else◌, List, [], ◌∷◌, length, arith, suc}
 use Rattle.std.specs.List.{onto_first}
 use Rattle.book_text.specs.Lines.{lines_of}
 

@@ -7,3 +7,8 @@ pub mod Items
 pub mod NodeSteps
 pub mod WeightSteps
 pub mod PlaceSteps
+pub mod FewRecords
+pub mod GoodRecords
+pub mod GoodNodes
+pub mod GoodWeights
+pub mod GoodPlaces

@@ -1,5 +1,5 @@
 -- The suffixes of file names.
-use Rattle.std.proofs.Common.{◌≡◌, ℕ, ◌+◌, ◌-◌, ◌≤◌, ◌<◌, Bool, true, false, ◌&&◌, cond, List, [], ◌∷◌, ◌++◌, length, drop, take, map, filter, get_or, nat_eq, IsTrue, ◌↔◌, Option, Some, None, option_map, option_to_list, Result, Ok, Err, MatchResult, is_ok, is_some, sym, refl, ap, ◌∙◌, rules, arith}
+use Rattle.std.proofs.Common.{◌≡◌, ℕ, ◌+◌, ◌-◌, ◌<◌, Bool, true, false, cond, List, [], ◌∷◌, ◌++◌, length, drop, take, map, get_or, IsTrue, ◌↔◌, Option, Some, None, option_map, option_to_list, Result, Ok, Err, MatchResult, is_ok, is_some, sym, refl, ap, ◌∙◌}
 use Rattle.std.specs.Char.{to_ascii_lowercase}
 use Rattle.std.specs.Str.{bytes_eq, is_utf8, IsUtf8}
 use Rattle.std.specs.List.{list_all}
@@ -11,10 +11,8 @@ use Rattle.std.proofs.lemmas.Str.{IsUtf8-from_is_utf8, is_utf8-from_IsUtf8}
 use Rattle.std.proofs.lemmas.Bool.{and_parts, and_from, cond-true, cond-false, both_ways, true_from_ne_false, false_from_ne_true}
 use Rattle.std.proofs.lemmas.Bool.Decides.{same_from_decides}
 use Rattle.std.proofs.lemmas.Slice.Eq.{bytes_eq-Decides}
-use Rattle.book_files.specs.declared.fault.TextKind.{TextKind}
 use Rattle.book_files.specs.declared.fault.TextKind.TheVariants.{BadLine}
 use Rattle.book_files.specs.Words.{◌>>=◌}
-use Rattle.book_files.specs.Entries.{AuxEntry}
 use Rattle.book_files.specs.Aux.{is_file_name, has_suffix, named, at_most_one, only, aux_of}
 
 -- whether the end of a name is the suffix, in any ASCII case

@@ -1,5 +1,5 @@
 -- The steps of the nodes reader.
-use Rattle.std.proofs.Common.{◌≡◌, ℕ, ◌<◌, ◌≤◌, Bool, true, false, List, [], ◌∷◌, ◌++◌, length, map, is_some, Option, Some, Result, Ok, Err, codes, if◌then◌else◌, refl, sym, ap, ◌∙◌, arith}
+use Rattle.std.proofs.Common.{◌≡◌, ℕ, ◌<◌, ◌≤◌, Bool, true, false, List, [], ◌∷◌, ◌++◌, length, map, is_some, Some, Result, Ok, Err, codes, if◌then◌else◌, refl, sym, ap, ◌∙◌, arith}
 use Rattle.std.proofs.lemmas.Bool.{cond-true, cond-false}
 use Rattle.book_text.specs.Lines.{NumberedLine}
 use Rattle.book_files.specs.declared.fault.TextKind.{TextKind}

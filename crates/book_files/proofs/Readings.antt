@@ -1,10 +1,10 @@
 -- Each text has exactly one answer by a form: what comes of its lines is determined.
-use Rattle.std.proofs.Common.{◌≡◌, ◌⊎◌, ℕ, List, [], ◌∷◌, ◌++◌, Result, Ok, Err, refl, sym, ap, subst, ◌∙◌, inl, inr, ⊎_elim, append_assoc}
+use Rattle.std.proofs.Common.{◌≡◌, ◌⊎◌, ℕ, List, [], ◌∷◌, ◌++◌, Result, Ok, Err, refl, sym, ap, ◌∙◌, inl, inr, ⊎_elim, append_assoc}
 use Rattle.std.proofs.lemmas.List.{append-nil}
 use Rattle.book_text.specs.Lines.{NumberedLine, content_of, end_line}
 use Rattle.book_files.specs.declared.fault.TextKind.{TextKind}
 use Rattle.book_files.specs.declared.fault.TextFault.{TextFault}
-use Rattle.book_files.specs.Form.{Form, Mean, Reads, FirstFault, FaultAtLine, FaultAtEnd}
+use Rattle.book_files.specs.Form.{Form, Mean, Reads, FirstFault, FaultAtLine}
 use Rattle.book_files.specs.Laws.{HasOneAnswer}
 
 abbrev Outcome : Type 0 → Type 0

@@ -1,5 +1,5 @@
 -- The placement file: a header, and a line per placed node.
-use Rattle.std.specs.Prelude.{ℕ, Bool, true, false, List, [], ◌∷◌, map, codes, Option, Some, None, Result, Ok, Err, if◌then◌else◌, filter_map}
+use Rattle.std.specs.Prelude.{ℕ, Bool, true, false, List, [], ◌∷◌, codes, Option, Some, None, Result, Ok, Err, if◌then◌else◌, filter_map}
 use Rattle.book_text.specs.Lines.{NumberedLine}
 use Rattle.book_files.specs.declared.orient.Orient.{Orient}
 use Rattle.book_files.specs.declared.orient.Orient.TheVariants.{N, S, E, W, FN, FS, FE, FW}

@@ -1,12 +1,12 @@
 -- Keywords, numbers and count lines.
-use Rattle.std.specs.Prelude.{ℕ, Bool, true, false, ◌&&◌, ◌||◌, List, [], ◌∷◌, length, map, codes, bytes_eq, ℤ, pos, int_lt, Option, Some, None, Result, Ok, Err, if◌then◌else◌}
+use Rattle.std.specs.Prelude.{ℕ, Bool, false, ◌&&◌, List, [], ◌∷◌, map, codes, bytes_eq, ℤ, pos, int_lt, Option, Some, None, Result, Ok, Err, if◌then◌else◌}
 use Rattle.std.specs.Char.{to_ascii_lowercase}
 use Rattle.std.specs.List.{filter_map}
 use Rattle.book_text.specs.declared.number.NumberFault.{NumberFault}
 use Rattle.book_text.specs.Whole.{whole_value}
 use Rattle.book_text.specs.Decimal.{micro_value}
 use Rattle.book_files.specs.declared.fault.TextKind.{TextKind}
-use Rattle.book_files.specs.declared.fault.TextKind.TheVariants.{BadHeader, BadLine, BadNumber, CountMismatch}
+use Rattle.book_files.specs.declared.fault.TextKind.TheVariants.{BadLine, BadNumber}
 
 -- goes on with the value, or keeps the fault
 infixl 10 ◌>>=◌
