@@ -69,3 +69,18 @@ IsUnbuilt files word Scl = (names : AuxNames) × (nodes : List NodeEntry) × (ne
     × HasText files (beside word names.nets) (λ text. IsNetsText text nodes) nets
     × HasText files (beside word names.pl) (λ text. IsPlText text nodes) places
     × HasOtherText files (beside word names.scl) IsSclText
+
+-- each file before that of the kind is in the narrow form
+abbrev pub IsReached : List FileEntry → List ℕ → FileKind → Type 0
+IsReached files word Aux = Unit {0}
+IsReached files word Nodes = (names : AuxNames) × HasText files word IsAuxText names
+IsReached files word Nets = (names : AuxNames) × (nodes : List NodeEntry) × HasText files word IsAuxText names
+    × HasText files (beside word names.nodes) IsNodesText nodes
+IsReached files word Wts = ⊥
+IsReached files word Pl = (names : AuxNames) × (nodes : List NodeEntry) × (nets : List NetEntry) × HasText files word IsAuxText names
+    × HasText files (beside word names.nodes) IsNodesText nodes
+    × HasText files (beside word names.nets) (λ text. IsNetsText text nodes) nets
+IsReached files word Scl = (names : AuxNames) × (nodes : List NodeEntry) × (nets : List NetEntry) × (places : List PlaceEntry) × HasText files word IsAuxText names
+    × HasText files (beside word names.nodes) IsNodesText nodes
+    × HasText files (beside word names.nets) (λ text. IsNetsText text nodes) nets
+    × HasText files (beside word names.pl) (λ text. IsPlText text nodes) places

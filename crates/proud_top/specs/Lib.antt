@@ -1,6 +1,7 @@
 pub mod Kinds
 pub mod NarrowSystem
 pub mod Report
+pub mod Loading
 pub mod Design
 pub mod Answers
 pub mod Codes

@@ -1,0 +1,1 @@
+// LEAD'S NOTE: see equations.rt

@@ -1,11 +1,12 @@
-ghost use Rattle.std.specs.Prelude.{◌≡◌, ◌⊎◌, ℕ, List, Some, None, IfSome};
+ghost use Rattle.std.specs.Prelude.{◌≡◌, ◌⊎◌, ℕ, List, take, Some, None, IfSome};
+ghost use Rattle.std.specs.Io.KnownBytes.{Appends};
 ghost use Rattle.book_outer.specs.Cause.{Rose};
 ghost use Rattle.book_outer.specs.Files.{FileEntry};
 ghost use Rattle.proud_top.specs.declared.kind.FileKind.{FileKind};
 ghost use Rattle.proud_top.specs.NarrowSystem.{NarrowDesign};
 ghost use Rattle.proud_top.specs.Kinds.{usage_line, cannot_read_line, not_built_line};
 ghost use Rattle.proud_top.specs.Design.{requested, IsNarrow, IsUnbuilt};
-ghost use Rattle.proud_top.specs.Answers.{GotReport, GotReportFront, GotLine, GotDueFront, IsRefused};
+ghost use Rattle.proud_top.specs.Answers.{GotReport, GotReportFront, GotLine, GotDueFront, IsRefused, HasReached};
 
 use crate::kind::FileKind;
 use crate::status::{Refusal, Status};
@@ -32,7 +33,10 @@ pub fn proud<F: Folder, S: Sink, G: Gate>(
     // Usage comes exactly where the words have another form. Nothing is read then.
     ensures usage { result ≡ Status.Usage → requested words.now ≡ None }
     ensures only_usage { requested words.now ≡ None → (result ≡ Status.Usage) ⊎ (result ≡ Status.Memory) }
-    ensures usage_reads_nothing { requested words.now ≡ None → (F.begun folder.new ≡ F.begun folder.old) }
+    ensures usage_begins_nothing { requested words.now ≡ None → F.begun folder.new ≡ F.begun folder.old }
+    ensures usage_reads_nothing { requested words.now ≡ None → F.read_faults folder.new ≡ F.read_faults folder.old }
+    ensures usage_memory { requested words.now ≡ None → result ≡ Status.Memory
+        → (n : ℕ) × Appends (S.written report.old) (S.written report.new) (take n usage_line) }
     ensures usage_told { result ≡ Status.Usage
         → GotLine (S.faults report.old) (S.faults report.new) (S.written report.old) (S.written report.new) usage_line }
 
@@ -41,6 +45,9 @@ pub fn proud<F: Folder, S: Sink, G: Gate>(
         → Rose (F.read_faults folder.old) (F.read_faults folder.new) }
     ensures read_fault_told { (kind : FileKind) → result ≡ Status.ReadFault kind
         → GotLine (S.faults report.old) (S.faults report.new) (S.written report.old) (S.written report.new) (cannot_read_line kind) }
+
+    ensures read_fault_place { (kind : FileKind) → result ≡ Status.ReadFault kind
+        → IfSome (F.files folder.old) (λ files. HasReached files words.now kind) }
 
     // NotBuilt comes exactly where the file of the kind is the first that isn't in the narrow form.
     ensures refused { (kind : FileKind) → result ≡ Status.Refused (Refusal.NotBuilt kind)
@@ -51,8 +58,12 @@ pub fn proud<F: Folder, S: Sink, G: Gate>(
     ensures refused_told { (kind : FileKind) → result ≡ Status.Refused (Refusal.NotBuilt kind)
         → GotLine (S.faults report.old) (S.faults report.new) (S.written report.old) (S.written report.new) (not_built_line kind) }
 
+    ensures calm_refusal { (kind : FileKind) → result ≡ Status.Refused (Refusal.NotBuilt kind)
+        → F.read_faults folder.new ≡ F.read_faults folder.old }
+
     // WriteFault comes only where the report's count of faults rose. The report got a front of its text.
     ensures write_fault { result ≡ Status.WriteFault → Rose (S.faults report.old) (S.faults report.new) }
+    ensures calm_write { result ≡ Status.WriteFault → F.read_faults folder.new ≡ F.read_faults folder.old }
     ensures write_fault_told { result ≡ Status.WriteFault → IfSome (F.files folder.old) (λ files.
         GotReportFront files words.now (S.written report.old) (S.written report.new)) }
 
@@ -66,6 +77,9 @@ pub fn proud<F: Folder, S: Sink, G: Gate>(
         → (Rose (F.read_faults folder.old) (F.read_faults folder.new) → ⊥)
         → (Rose (S.faults report.old) (S.faults report.new) → ⊥)
         → (result ≡ Status.Done) ⊎ (result ≡ Status.Memory) }
+
+    // A design has no weights in this form.
+    ensures no_weights { (result ≡ Status.ReadFault FileKind.Wts → ⊥) × (result ≡ Status.Refused (Refusal.NotBuilt FileKind.Wts) → ⊥) }
 
     // The folder's files stay as they were, and nothing is written there.
     ensures files { F.files folder.new ≡ F.files folder.old }
