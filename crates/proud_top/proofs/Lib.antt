@@ -1,2 +1,7 @@
 pub mod Pieces
 pub mod Causes
+pub mod Folders
+pub mod Readings
+mod Movable
+mod Valid
+mod Numbering

@@ -3,5 +3,9 @@ pub mod NarrowSystem
 pub mod Report
 pub mod Loading
 pub mod Design
+pub mod Steps
 pub mod Answers
 pub mod Codes
+pub mod Stops
+pub mod WellFormed
+pub mod OtherNode
