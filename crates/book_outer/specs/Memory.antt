@@ -1,5 +1,7 @@
 -- What a folder and a sink in memory hold.
-use Rattle.std.specs.Prelude.{ℕ, List, Option}
+use Rattle.std.specs.Prelude.{ℕ, Bool, List, Option, ◌==◌}
+use Rattle.std.specs.List.{list_any}
+use Rattle.book_outer.specs.Cause.{one_more}
 use Rattle.book_outer.specs.Files.{FileEntry}
 use Rattle.book_outer.specs.Folder.{Reading}
 
@@ -21,3 +23,7 @@ pub record MemoryBytes : Type 0 where
   pub failing : List ℕ
   pub calls : ℕ
   pub faults : ℕ
+
+-- whether the next call is to fail, after so many calls
+abbrev pub is_to_fail : List ℕ → ℕ → Bool
+is_to_fail failing calls = list_any (λ number. number == one_more calls) failing

@@ -14,6 +14,7 @@ mod host;
 mod lists;
 mod memory;
 mod sink;
+mod store;
 mod trouble;
 
 pub use folder::Folder;

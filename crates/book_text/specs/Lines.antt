@@ -1,5 +1,5 @@
 -- The lines of a text and the words of a line. The whole text is cut into a list of lines, each a list of words.
-use Rattle.std.specs.Prelude.{ℕ, ◌+◌, ◌-◌, Bool, true, false, not, ◌&&◌, ◌||◌, ◌==◌, List, [], ◌∷◌, ◌++◌, length, take, drop, replicate, filter, flat_map, if◌then◌else◌}
+use Rattle.std.specs.Prelude.{ℕ, ◌+◌, ◌-◌, Bool, false, not, ◌||◌, ◌==◌, List, [], ◌∷◌, ◌++◌, length, take, drop, replicate, filter, flat_map, if◌then◌else◌}
 use Rattle.std.specs.List.{slice_split, onto_first, prefix_len, suffix_len}
 
 -- a space, a tab or a carriage return

@@ -1,6 +1,6 @@
 -- The next line and the next word, told of what is left of the text.
 use Rattle.std.specs.Prelude.{◌≡◌, ℕ, ◌+◌, ◌<◌, ◌≤◌, List, ◌∷◌, length, drop, slice_range}
-use Rattle.book_text.specs.Lines.{NumberedLine, words_of, content_from}
+use Rattle.book_text.specs.Lines.{words_of, content_from}
 use Rattle.book_text.specs.declared.line.Span.{Span}
 use Rattle.book_text.specs.declared.line.Line.{Line}
 

@@ -6,11 +6,13 @@
 //! The contract: the lines, words and values are exactly those of `specs/Lines.antt` and `specs/Whole.antt`.
 #![tactic(auto)]
 
+mod decimal;
 mod line;
 mod memory;
 mod number;
 
-pub use line::{Line, Span, next_line, next_word};
+pub use decimal::{Micro, put_micro, read_micro};
+pub use line::{Line, Span, count_lines, next_line, next_word};
 pub use memory::Memory;
 pub use number::{NumberFault, read_whole};
 

@@ -1,7 +1,8 @@
 //! The lines of a text and the words of a line, walked by places.
 
-ghost use Rattle.std.specs.Prelude.{◌≡◌, ◌+◌, ◌≤◌, [], length, drop, slice_range, MatchOption};
-ghost use Rattle.book_text.specs.Lines.{words_of, content_from};
+ghost use Rattle.std.specs.Prelude.{◌≡◌, ◌+◌, ◌-◌, ◌≤◌, ◌==◌, [], length, drop, slice_range, MatchOption};
+ghost use Rattle.std.specs.List.{prefix_len, suffix_len, position_or_len, count_by};
+ghost use Rattle.book_text.specs.Lines.{is_blank, is_colon, has_content, lines_of, words_of, content_from};
 ghost use Rattle.book_text.specs.Walk.{IsNextLine, IsNextWord};
 
 /// A part of a text: the places from `from` up to, but not including, `to`.
@@ -26,6 +27,8 @@ const LINE_END: u8 = b'\n';
 
 const COLON: u8 = b':';
 
+const COMMENT: u8 = b'#';
+
 /// The next line that has a word and is no comment, from the place `at`, where a line of the given number starts.
 ///
 /// `None` comes where no such line is left. Lines that are passed over keep their numbers.
@@ -39,14 +42,13 @@ pub fn next_line(text: &[u8], at: usize, number: u64) -> Option<Line>
     let mut line = number;
     while start < text.len() {
         let end = line_end(text, start);
-        let next = if end < text.len() { end + 1 } else { end };
-        let words = Span {
-            from: start,
-            to: end,
-        };
-        if has_content(text, words) {
+        let next = text.len().min(end + 1);
+        if is_kept(text, start, end) {
             return Some(Line {
-                words,
+                words: Span {
+                    from: start,
+                    to: end,
+                },
                 number: line,
                 next,
             });
@@ -57,26 +59,44 @@ pub fn next_line(text: &[u8], at: usize, number: u64) -> Option<Line>
     None
 }
 
+/// The number of lines of a text. A last line without a byte 10 behind it is one too.
+pub fn count_lines(text: &[u8]) -> u64
+    ensures { result ≡ length (lines_of text.now) }
+{
+    let ends = line_ends(text) as u64;
+    match text {
+        [.., last] if *last != LINE_END => ends + 1,
+        _ => ends,
+    }
+}
+
+fn line_ends(text: &[u8]) -> usize
+    ensures count { result ≡ count_by (λ b. b == 10) text.now }
+    ensures within { result ≤ length text.now }
+{
+    text.iter().filter(|byte| **byte == LINE_END).count()
+}
+
 /// Where the line that starts at `at` ends: at the next byte 10, or at the text's end.
 fn line_end(text: &[u8], at: usize) -> usize
     requires { at ≤ length text.now }
+    ensures place { result ≡ at + position_or_len (λ b. b == 10) (drop at text.now) }
+    ensures within { result ≤ length text.now }
 {
-    let mut end = at;
-    while end < text.len() && text[end] != LINE_END {
-        end += 1;
+    match text[at..].iter().position(|byte| *byte == LINE_END) {
+        Some(passed) => at + passed,
+        None => text.len(),
     }
-    end
 }
 
-/// Whether the line has a word and is no comment.
-fn has_content(text: &[u8], words: Span) -> bool
-    requires ordered { words.from ≤ words.to }
-    requires within { words.to ≤ length text.now }
+/// Whether the line at these places has a word and is no comment.
+fn is_kept(text: &[u8], from: usize, to: usize) -> bool
+    requires ordered { from ≤ to }
+    requires within { to ≤ length text.now }
+    ensures { result ≡ has_content (words_of (slice_range text.now from to)) }
 {
-    match next_word(text, words, words.from) {
-        Some(word) => text[word.from] != b'#',
-        None => false,
-    }
+    let first = behind_blanks(text, from, to);
+    first < to && text[first] != COMMENT
 }
 
 /// The next word of a line, from the place `at` on, which doesn't lie inside a word.
@@ -89,26 +109,59 @@ pub fn next_word(text: &[u8], words: Span, at: usize) -> Option<Span>
     ensures { MatchOption result (words_of (slice_range text.now at words.to) ≡ [])
         (IsNextWord text.now at words.to) }
 {
-    let mut from = at;
-    while from < words.to && is_blank(text[from]) {
-        from += 1;
-    }
+    let from = behind_blanks(text, at, words.to);
     if from == words.to {
         return None;
     }
-    if text[from] == COLON {
-        return Some(Span { from, to: from + 1 });
-    }
-    let mut to = from + 1;
-    while to < words.to && !is_blank(text[to]) {
-        to += 1;
-    }
-    while text[to - 1] == COLON {
-        to -= 1;
-    }
+    let to = if text[from] == COLON {
+        from + 1
+    } else {
+        before_colons(text, from, run_end(text, from, words.to))
+    };
     Some(Span { from, to })
 }
 
-fn is_blank(byte: u8) -> bool {
+/// The first of these places that holds no blank, or `to`.
+fn behind_blanks(text: &[u8], from: usize, to: usize) -> usize
+    requires ordered { from ≤ to }
+    requires within { to ≤ length text.now }
+    ensures place { result ≡ from + prefix_len is_blank (slice_range text.now from to) }
+    ensures within { result ≤ to }
+{
+    match text[from..to].iter().position(|byte| !is_blank(*byte)) {
+        Some(passed) => from + passed,
+        None => to,
+    }
+}
+
+/// The first of these places that holds a blank, or `to`.
+fn run_end(text: &[u8], from: usize, to: usize) -> usize
+    requires ordered { from ≤ to }
+    requires within { to ≤ length text.now }
+    ensures place { result ≡ from + position_or_len is_blank (slice_range text.now from to) }
+    ensures within { result ≤ to }
+{
+    match text[from..to].iter().position(|byte| is_blank(*byte)) {
+        Some(passed) => from + passed,
+        None => to,
+    }
+}
+
+/// Where the colons begin with which these places end, or `to`.
+fn before_colons(text: &[u8], from: usize, to: usize) -> usize
+    requires ordered { from ≤ to }
+    requires within { to ≤ length text.now }
+    ensures { result ≡ to - suffix_len is_colon (slice_range text.now from to) }
+{
+    let mut end = to;
+    while from < end && text[end - 1] == COLON {
+        end -= 1;
+    }
+    end
+}
+
+fn is_blank(byte: u8) -> bool
+    ensures { result ≡ is_blank byte }
+{
     matches!(byte, b' ' | b'\t' | b'\r')
 }

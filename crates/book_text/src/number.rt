@@ -13,7 +13,7 @@ pub enum NumberFault {
 }
 
 /// The most bytes of a number word.
-const MOST_DIGITS: usize = 30;
+pub(crate) const MOST_BYTES: usize = 30;
 
 /// The greatest value of a whole word.
 const MOST_WHOLE: u64 = 1 << 40;
@@ -22,18 +22,18 @@ const MOST_WHOLE: u64 = 1 << 40;
 pub fn read_whole(word: &[u8]) -> Result<u64, NumberFault>
     ensures { result ≡ whole_value word.now }
 {
-    if word.is_empty()
-        || word.len() > MOST_DIGITS
-        || !word.iter().all(|byte| byte.is_ascii_digit())
-    {
+    if word.is_empty() || word.len() > MOST_BYTES {
         return Err(NumberFault::NotNumber);
     }
     let mut value: u64 = 0;
     for byte in word {
-        value = value * 10 + u64::from(*byte - b'0');
-        if value > MOST_WHOLE {
-            return Err(NumberFault::OutOfRange);
+        if !byte.is_ascii_digit() {
+            return Err(NumberFault::NotNumber);
         }
+        value = (value * 10 + u64::from(*byte - b'0')).min(MOST_WHOLE + 1);
+    }
+    if value > MOST_WHOLE {
+        return Err(NumberFault::OutOfRange);
     }
     Ok(value)
 }

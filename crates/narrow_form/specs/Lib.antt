@@ -1,3 +1,4 @@
 pub mod Narrow
 pub mod Answers
 pub mod Views
+pub mod Reading

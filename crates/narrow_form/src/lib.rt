@@ -14,6 +14,8 @@ mod nodes;
 mod pl;
 mod records;
 mod scl;
+mod stop;
+mod words;
 
 pub use aux::read_aux;
 pub use laws::one_reading;

@@ -1,0 +1,9 @@
+pub mod FewLines
+pub mod Readings
+pub mod Names
+pub mod Progresses
+pub mod AuxSteps
+pub mod Items
+pub mod NodeSteps
+pub mod WeightSteps
+pub mod PlaceSteps

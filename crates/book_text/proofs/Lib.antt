@@ -1,0 +1,13 @@
+pub mod Prefixes
+pub mod Words
+pub mod Places
+pub mod TextLines
+pub mod NextWord
+pub mod NextLine
+pub mod Digits
+pub mod Powers
+pub mod NumberWords
+pub mod Reading
+pub mod MicroValue
+pub mod Exponents
+pub mod Kept

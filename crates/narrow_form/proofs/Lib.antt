@@ -1,0 +1,10 @@
+pub mod Seen
+pub mod Times
+pub mod Finding
+pub mod LineLemmas
+pub mod Names
+pub mod NodeLines
+pub mod PlaceLines
+pub mod NetLines
+pub mod RowLines
+pub mod Joined
