@@ -10,6 +10,7 @@
 
 mod search;
 mod steps;
+mod tellers;
 mod web;
 
 pub use search::{ReachError, reach};
