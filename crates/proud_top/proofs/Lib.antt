@@ -5,3 +5,7 @@ pub mod Readings
 mod Movable
 mod Valid
 mod Numbering
+mod Formed
+mod Chain
+mod Clash
+mod Outcomes

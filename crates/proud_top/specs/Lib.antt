@@ -9,3 +9,4 @@ pub mod Codes
 pub mod Stops
 pub mod WellFormed
 pub mod OtherNode
+pub mod Outcome

@@ -1,4 +1,4 @@
-ghost use Rattle.std.specs.Prelude.{◌≡◌, ◌⊎◌, ℕ, List, take, Some, None, IfSome};
+ghost use Rattle.std.specs.Prelude.{◌≡◌, ◌⊎◌, ℕ, List, take, Some, None, IfSome, MatchOption};
 ghost use Rattle.std.specs.Io.KnownBytes.{Appends};
 ghost use Rattle.book_outer.specs.Cause.{Rose};
 ghost use Rattle.book_outer.specs.Files.{FileEntry};
@@ -6,11 +6,16 @@ ghost use Rattle.proud_top.specs.declared.kind.FileKind.{FileKind};
 ghost use Rattle.proud_top.specs.NarrowSystem.{NarrowDesign};
 ghost use Rattle.proud_top.specs.Kinds.{usage_line, cannot_read_line, not_built_line};
 ghost use Rattle.proud_top.specs.Design.{requested, IsNarrow, IsUnbuilt};
+ghost use Rattle.proud_top.specs.Outcome.{Outcome, Tells, PutsReport};
 ghost use Rattle.proud_top.specs.Answers.{GotReport, GotReportFront, GotLine, GotDueFront, IsRefused, HasReached};
 
 use crate::kind::FileKind;
+use crate::reading::placed;
+use crate::report::fault_line;
 use crate::status::{Refusal, Status};
-use book_outer::{Folder, Gate, Sink, Words};
+use crate::stop::Stop;
+use book_outer::{Folder, Gate, Sink, Trouble, Words};
+use narrow_form::one_reading;
 use std::alloc::Global;
 
 /// Places the design that the words name, and reports for each cell its lower and its upper x coordinate.
@@ -85,5 +90,89 @@ pub fn proud<F: Folder, S: Sink, G: Gate>(
     ensures files { F.files folder.new ≡ F.files folder.old }
     ensures writes { F.write_faults folder.new ≡ F.write_faults folder.old }
 {
-    Status::Memory
+    one_reading();
+    run(alloc, words, folder, report)
+}
+
+/// The line that is put where the words have another form.
+const USAGE_LINE: &[u8] = b"usage: proud DESIGN\n";
+
+/// The run, whose outcome is told as a whole.
+fn run<F: Folder, S: Sink>(alloc: Global, words: &Words, folder: &mut F, report: &mut S) -> Status
+    ensures outcome { Outcome (F.files folder.old) words.now
+        (record { before = F.read_faults folder.old; now = F.read_faults folder.new })
+        (record { before = S.faults report.old; now = S.faults report.new })
+        (S.written report.old) (S.written report.new) result }
+    ensures begun { requested words.now ≡ None → F.begun folder.new ≡ F.begun folder.old }
+    ensures read_faults { requested words.now ≡ None → F.read_faults folder.new ≡ F.read_faults folder.old }
+    ensures files { F.files folder.new ≡ F.files folder.old }
+    ensures writes { F.write_faults folder.new ≡ F.write_faults folder.old }
+{
+    let Some(word) = requested(words) else {
+        return tell(report, Status::Usage, USAGE_LINE);
+    };
+    match placed(alloc, folder, word) {
+        Ok(text) => put_report(report, &text),
+        Err(Stop::Unbuilt(kind)) => tell_refusal(alloc, report, kind),
+        Err(Stop::Unread(kind)) => tell_fault(alloc, report, kind),
+        Err(Stop::Memory) => Status::Memory,
+    }
+}
+
+/// The design's word, where exactly one word stands behind the program's name.
+fn requested(words: &Words) -> Option<&str>
+    ensures { MatchOption result (requested words.now ≡ None) (λ word. requested words.now ≡ Some word.now) }
+{
+    if words.len() == 2 {
+        Some(words.word(1))
+    } else {
+        None
+    }
+}
+
+/// Puts a line, whose fault doesn't change the status.
+fn tell<S: Sink>(report: &mut S, status: Status, line: &[u8]) -> Status
+    ensures { Tells status line.now (record { before = S.faults report.old; now = S.faults report.new })
+        (S.written report.old) (S.written report.new) result }
+{
+    match report.put(line) {
+        Err(Trouble::Memory) => Status::Memory,
+        Ok(()) | Err(Trouble::Failed) => status,
+    }
+}
+
+/// Tells that a file isn't in the narrow form.
+fn tell_refusal<S: Sink>(alloc: Global, report: &mut S, kind: FileKind) -> Status
+    ensures { Tells (Status.Refused (Refusal.NotBuilt kind)) (not_built_line kind)
+        (record { before = S.faults report.old; now = S.faults report.new })
+        (S.written report.old) (S.written report.new) result }
+{
+    match fault_line(alloc, b"proud: not built: ", kind) {
+        Ok(line) => tell(report, Status::Refused(Refusal::NotBuilt(kind)), &line),
+        Err(_) => Status::Memory,
+    }
+}
+
+/// Tells that a file couldn't be read.
+fn tell_fault<S: Sink>(alloc: Global, report: &mut S, kind: FileKind) -> Status
+    ensures { Tells (Status.ReadFault kind) (cannot_read_line kind)
+        (record { before = S.faults report.old; now = S.faults report.new })
+        (S.written report.old) (S.written report.new) result }
+{
+    match fault_line(alloc, b"proud: cannot read ", kind) {
+        Ok(line) => tell(report, Status::ReadFault(kind), &line),
+        Err(_) => Status::Memory,
+    }
+}
+
+/// Puts the report.
+fn put_report<S: Sink>(report: &mut S, text: &[u8]) -> Status
+    ensures { PutsReport text.now (record { before = S.faults report.old; now = S.faults report.new })
+        (S.written report.old) (S.written report.new) result }
+{
+    match report.put(text) {
+        Ok(()) => Status::Done,
+        Err(Trouble::Failed) => Status::WriteFault,
+        Err(Trouble::Memory) => Status::Memory,
+    }
 }
