@@ -8,7 +8,7 @@ use Rattle.proud_top.specs.declared.kind.FileKind.{FileKind}
 use Rattle.proud_top.specs.NarrowSystem.{NarrowDesign, system_of}
 use Rattle.proud_top.specs.Report.{report_of}
 use Rattle.proud_top.specs.Kinds.{usage_line, cannot_read_line, not_built_line}
-use Rattle.proud_top.specs.Design.{requested, IsNarrow, IsUnbuilt}
+use Rattle.proud_top.specs.Design.{requested, IsNarrow, IsUnbuilt, IsReached}
 
 -- The text is the report of the design that the files spell: a line per point, with the least and the greatest vector of its system.
 pub record IsReport (files : List FileEntry) (words : List (List ℕ)) (text : List ℕ) : Type 0 where
@@ -38,10 +38,14 @@ GotLine before now old new line = Appends old new line ⊎ (Rose before now × (
 abbrev pub IsRefused : List FileEntry → List (List ℕ) → FileKind → Type 0
 IsRefused files words kind = (word : List ℕ) × (requested words ≡ Some word) × IsUnbuilt files word kind
 
+-- exactly one word stands behind the program's name, and each file before that of the kind is in the narrow form
+abbrev pub HasReached : List FileEntry → List (List ℕ) → FileKind → Type 0
+HasReached files words kind = (word : List ℕ) × (requested words ≡ Some word) × IsReached files word kind
+
 -- What the call would have put: the line of a refusal or of a fault with its cause, or the report.
 pub data IsDue (files : List FileEntry) (words : List (List ℕ)) (before now : ℕ) (text : List ℕ) : Type 0 where
   usage : requested words ≡ None → text ≡ usage_line → IsDue files words before now text
-  unread : (kind : FileKind) → Rose before now → text ≡ cannot_read_line kind → IsDue files words before now text
+  unread : (kind : FileKind) → HasReached files words kind → Rose before now → text ≡ cannot_read_line kind → IsDue files words before now text
   unbuilt : (kind : FileKind) → IsRefused files words kind → text ≡ not_built_line kind → IsDue files words before now text
   report : IsReport files words text → IsDue files words before now text
 

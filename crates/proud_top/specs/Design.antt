@@ -5,6 +5,7 @@ use Rattle.book_outer.specs.Files.{FileEntry, content}
 use Rattle.narrow_form.specs.Narrow.{AuxNames, NodeEntry, NetEntry, PlaceEntry, RowEntry, IsAuxText, IsNodesText, IsNetsText, IsPlText, IsSclText}
 use Rattle.proud_top.specs.declared.kind.FileKind.{FileKind}
 use Rattle.proud_top.specs.declared.kind.FileKind.TheVariants.{Aux, Nodes, Nets, Wts, Pl, Scl}
+use Rattle.proud_top.specs.Loading.{most_bytes}
 use Rattle.proud_top.specs.NarrowSystem.{NarrowDesign}
 
 -- the design's word, where exactly one word stands behind the program's name
@@ -24,10 +25,6 @@ folder_of name = take (length name - suffix_len is_no_slash name) name
 -- the name of a file that stands beside the design's aux file
 abbrev pub beside : List ℕ → List ℕ → List ℕ
 beside design name = folder_of design ++ name
-
--- the most bytes that a file may have
-abbrev pub most_bytes : ℕ
-most_bytes = 268435456
 
 -- the file is there, isn't too long, and its text is read as the record
 pub record HasText {R : Type 0} (files : List FileEntry) (name : List ℕ) (IsRead : List ℕ → R → Type 0) (read : R) : Type 0 where
@@ -69,3 +66,18 @@ IsUnbuilt files word Scl = (names : AuxNames) × (nodes : List NodeEntry) × (ne
     × HasText files (beside word names.nets) (λ text. IsNetsText text nodes) nets
     × HasText files (beside word names.pl) (λ text. IsPlText text nodes) places
     × HasOtherText files (beside word names.scl) IsSclText
+
+-- each file before that of the kind is in the narrow form
+abbrev pub IsReached : List FileEntry → List ℕ → FileKind → Type 0
+IsReached files word Aux = Unit {0}
+IsReached files word Nodes = (names : AuxNames) × HasText files word IsAuxText names
+IsReached files word Nets = (names : AuxNames) × (nodes : List NodeEntry) × HasText files word IsAuxText names
+    × HasText files (beside word names.nodes) IsNodesText nodes
+IsReached files word Wts = ⊥
+IsReached files word Pl = (names : AuxNames) × (nodes : List NodeEntry) × (nets : List NetEntry) × HasText files word IsAuxText names
+    × HasText files (beside word names.nodes) IsNodesText nodes
+    × HasText files (beside word names.nets) (λ text. IsNetsText text nodes) nets
+IsReached files word Scl = (names : AuxNames) × (nodes : List NodeEntry) × (nets : List NetEntry) × (places : List PlaceEntry) × HasText files word IsAuxText names
+    × HasText files (beside word names.nodes) IsNodesText nodes
+    × HasText files (beside word names.nets) (λ text. IsNetsText text nodes) nets
+    × HasText files (beside word names.pl) (λ text. IsPlText text nodes) places

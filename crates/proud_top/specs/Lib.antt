@@ -1,6 +1,12 @@
 pub mod Kinds
 pub mod NarrowSystem
 pub mod Report
+pub mod Loading
 pub mod Design
+pub mod Steps
 pub mod Answers
 pub mod Codes
+pub mod Stops
+pub mod WellFormed
+pub mod OtherNode
+pub mod Outcome

@@ -45,11 +45,14 @@ abbrev pub no_place : PlaceEntry
 no_place = record { x = 0; y = 0 }
 
 -- a node's centre on the x axis
+abbrev pub centre_of : List NodeEntry → List PlaceEntry → ℕ → ℕ
+centre_of nodes places j = coordinate (slice_index_or places j no_place).x + (node_at nodes j).width * 500000
+
 abbrev pub centre : NarrowDesign → ℕ → ℕ
-centre design j = coordinate (slice_index_or design.places j no_place).x + (node_at design.nodes j).width * 500000
+centre design j = centre_of design.nodes design.places j
 
 abbrev pub clamped : NarrowDesign → ℕ → ℕ
-clamped design at = max (low_end design) (min at (high_end design))
+clamped design at = max (min at (high_end design)) (low_end design)
 
 -- the node's clamped centre, where it is a terminal
 abbrev pub as_pad : NarrowDesign → ℕ → Option ℕ

@@ -14,6 +14,7 @@ mod load;
 mod reading;
 mod report;
 mod status;
+mod stop;
 mod top;
 
 pub use kind::FileKind;

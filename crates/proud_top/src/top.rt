@@ -1,15 +1,21 @@
-ghost use Rattle.std.specs.Prelude.{◌≡◌, ◌⊎◌, ℕ, List, Some, None, IfSome};
+ghost use Rattle.std.specs.Prelude.{◌≡◌, ◌⊎◌, ℕ, List, take, Some, None, IfSome, MatchOption};
+ghost use Rattle.std.specs.Io.KnownBytes.{Appends};
 ghost use Rattle.book_outer.specs.Cause.{Rose};
 ghost use Rattle.book_outer.specs.Files.{FileEntry};
 ghost use Rattle.proud_top.specs.declared.kind.FileKind.{FileKind};
 ghost use Rattle.proud_top.specs.NarrowSystem.{NarrowDesign};
 ghost use Rattle.proud_top.specs.Kinds.{usage_line, cannot_read_line, not_built_line};
 ghost use Rattle.proud_top.specs.Design.{requested, IsNarrow, IsUnbuilt};
-ghost use Rattle.proud_top.specs.Answers.{GotReport, GotReportFront, GotLine, GotDueFront, IsRefused};
+ghost use Rattle.proud_top.specs.Outcome.{Outcome, Tells, PutsReport};
+ghost use Rattle.proud_top.specs.Answers.{GotReport, GotReportFront, GotLine, GotDueFront, IsRefused, HasReached};
 
 use crate::kind::FileKind;
+use crate::reading::placed;
+use crate::report::fault_line;
 use crate::status::{Refusal, Status};
-use book_outer::{Folder, Gate, Sink, Words};
+use crate::stop::Stop;
+use book_outer::{Folder, Gate, Sink, Trouble, Words};
+use narrow_form::one_reading;
 use std::alloc::Global;
 
 /// Places the design that the words name, and reports for each cell its lower and its upper x coordinate.
@@ -32,7 +38,10 @@ pub fn proud<F: Folder, S: Sink, G: Gate>(
     // Usage comes exactly where the words have another form. Nothing is read then.
     ensures usage { result ≡ Status.Usage → requested words.now ≡ None }
     ensures only_usage { requested words.now ≡ None → (result ≡ Status.Usage) ⊎ (result ≡ Status.Memory) }
-    ensures usage_reads_nothing { requested words.now ≡ None → (F.begun folder.new ≡ F.begun folder.old) }
+    ensures usage_begins_nothing { requested words.now ≡ None → F.begun folder.new ≡ F.begun folder.old }
+    ensures usage_reads_nothing { requested words.now ≡ None → F.read_faults folder.new ≡ F.read_faults folder.old }
+    ensures usage_memory { requested words.now ≡ None → result ≡ Status.Memory
+        → (n : ℕ) × Appends (S.written report.old) (S.written report.new) (take n usage_line) }
     ensures usage_told { result ≡ Status.Usage
         → GotLine (S.faults report.old) (S.faults report.new) (S.written report.old) (S.written report.new) usage_line }
 
@@ -41,6 +50,9 @@ pub fn proud<F: Folder, S: Sink, G: Gate>(
         → Rose (F.read_faults folder.old) (F.read_faults folder.new) }
     ensures read_fault_told { (kind : FileKind) → result ≡ Status.ReadFault kind
         → GotLine (S.faults report.old) (S.faults report.new) (S.written report.old) (S.written report.new) (cannot_read_line kind) }
+
+    ensures read_fault_place { (kind : FileKind) → result ≡ Status.ReadFault kind
+        → IfSome (F.files folder.old) (λ files. HasReached files words.now kind) }
 
     // NotBuilt comes exactly where the file of the kind is the first that isn't in the narrow form.
     ensures refused { (kind : FileKind) → result ≡ Status.Refused (Refusal.NotBuilt kind)
@@ -51,8 +63,12 @@ pub fn proud<F: Folder, S: Sink, G: Gate>(
     ensures refused_told { (kind : FileKind) → result ≡ Status.Refused (Refusal.NotBuilt kind)
         → GotLine (S.faults report.old) (S.faults report.new) (S.written report.old) (S.written report.new) (not_built_line kind) }
 
+    ensures calm_refusal { (kind : FileKind) → result ≡ Status.Refused (Refusal.NotBuilt kind)
+        → F.read_faults folder.new ≡ F.read_faults folder.old }
+
     // WriteFault comes only where the report's count of faults rose. The report got a front of its text.
     ensures write_fault { result ≡ Status.WriteFault → Rose (S.faults report.old) (S.faults report.new) }
+    ensures calm_write { result ≡ Status.WriteFault → F.read_faults folder.new ≡ F.read_faults folder.old }
     ensures write_fault_told { result ≡ Status.WriteFault → IfSome (F.files folder.old) (λ files.
         GotReportFront files words.now (S.written report.old) (S.written report.new)) }
 
@@ -67,9 +83,96 @@ pub fn proud<F: Folder, S: Sink, G: Gate>(
         → (Rose (S.faults report.old) (S.faults report.new) → ⊥)
         → (result ≡ Status.Done) ⊎ (result ≡ Status.Memory) }
 
+    // A design has no weights in this form.
+    ensures no_weights { (result ≡ Status.ReadFault FileKind.Wts → ⊥) × (result ≡ Status.Refused (Refusal.NotBuilt FileKind.Wts) → ⊥) }
+
     // The folder's files stay as they were, and nothing is written there.
     ensures files { F.files folder.new ≡ F.files folder.old }
     ensures writes { F.write_faults folder.new ≡ F.write_faults folder.old }
 {
-    Status::Memory
+    one_reading();
+    run(alloc, words, folder, report)
+}
+
+/// The line that is put where the words have another form.
+const USAGE_LINE: &[u8] = b"usage: proud DESIGN\n";
+
+/// The run, whose outcome is told as a whole.
+fn run<F: Folder, S: Sink>(alloc: Global, words: &Words, folder: &mut F, report: &mut S) -> Status
+    ensures outcome { Outcome (F.files folder.old) words.now
+        (record { before = F.read_faults folder.old; now = F.read_faults folder.new })
+        (record { before = S.faults report.old; now = S.faults report.new })
+        (S.written report.old) (S.written report.new) result }
+    ensures begun { requested words.now ≡ None → F.begun folder.new ≡ F.begun folder.old }
+    ensures read_faults { requested words.now ≡ None → F.read_faults folder.new ≡ F.read_faults folder.old }
+    ensures files { F.files folder.new ≡ F.files folder.old }
+    ensures writes { F.write_faults folder.new ≡ F.write_faults folder.old }
+{
+    let Some(word) = requested(words) else {
+        return tell(report, Status::Usage, USAGE_LINE);
+    };
+    match placed(alloc, folder, word) {
+        Ok(text) => put_report(report, &text),
+        Err(Stop::Unbuilt(kind)) => tell_refusal(alloc, report, kind),
+        Err(Stop::Unread(kind)) => tell_fault(alloc, report, kind),
+        Err(Stop::Memory) => Status::Memory,
+    }
+}
+
+/// The design's word, where exactly one word stands behind the program's name.
+fn requested(words: &Words) -> Option<&str>
+    ensures { MatchOption result (requested words.now ≡ None) (λ word. requested words.now ≡ Some word.now) }
+{
+    if words.len() == 2 {
+        Some(words.word(1))
+    } else {
+        None
+    }
+}
+
+/// Puts a line, whose fault doesn't change the status.
+fn tell<S: Sink>(report: &mut S, status: Status, line: &[u8]) -> Status
+    ensures { Tells status line.now (record { before = S.faults report.old; now = S.faults report.new })
+        (S.written report.old) (S.written report.new) result }
+{
+    match report.put(line) {
+        Err(Trouble::Memory) => Status::Memory,
+        Ok(()) | Err(Trouble::Failed) => status,
+    }
+}
+
+/// Tells that a file isn't in the narrow form.
+fn tell_refusal<S: Sink>(alloc: Global, report: &mut S, kind: FileKind) -> Status
+    ensures { Tells (Status.Refused (Refusal.NotBuilt kind)) (not_built_line kind)
+        (record { before = S.faults report.old; now = S.faults report.new })
+        (S.written report.old) (S.written report.new) result }
+{
+    match fault_line(alloc, b"proud: not built: ", kind) {
+        Ok(line) => tell(report, Status::Refused(Refusal::NotBuilt(kind)), &line),
+        Err(_) => Status::Memory,
+    }
+}
+
+/// Tells that a file couldn't be read.
+fn tell_fault<S: Sink>(alloc: Global, report: &mut S, kind: FileKind) -> Status
+    ensures { Tells (Status.ReadFault kind) (cannot_read_line kind)
+        (record { before = S.faults report.old; now = S.faults report.new })
+        (S.written report.old) (S.written report.new) result }
+{
+    match fault_line(alloc, b"proud: cannot read ", kind) {
+        Ok(line) => tell(report, Status::ReadFault(kind), &line),
+        Err(_) => Status::Memory,
+    }
+}
+
+/// Puts the report.
+fn put_report<S: Sink>(report: &mut S, text: &[u8]) -> Status
+    ensures { PutsReport text.now (record { before = S.faults report.old; now = S.faults report.new })
+        (S.written report.old) (S.written report.new) result }
+{
+    match report.put(text) {
+        Ok(()) => Status::Done,
+        Err(Trouble::Failed) => Status::WriteFault,
+        Err(Trouble::Memory) => Status::Memory,
+    }
 }

@@ -1,0 +1,50 @@
+-- What a step that reads files answers: what the files say, a refusal with its cause, a fault with its cause, or want of memory.
+use Rattle.std.specs.Prelude.{◌≡◌, ℕ, List, Option, Result, Ok, Err, IfSome, Vec}
+use Rattle.std.specs.declared.alloc.Global.{Global}
+use Rattle.book_outer.specs.Cause.{Rose}
+use Rattle.book_outer.specs.Files.{FileEntry}
+use Rattle.relax_system.specs.Extremal.{IsLeast, IsGreatest}
+use Rattle.proud_top.specs.declared.kind.FileKind.{FileKind}
+use Rattle.proud_top.specs.declared.kind.FileKind.TheVariants.{Wts}
+use Rattle.proud_top.specs.declared.stop.Stop.{Stop}
+use Rattle.proud_top.specs.declared.stop.Stop.TheVariants.{Unbuilt, Unread, Memory}
+use Rattle.proud_top.specs.NarrowSystem.{NarrowDesign, system_of}
+use Rattle.proud_top.specs.Report.{report_of}
+use Rattle.proud_top.specs.Design.{HasText, HasOtherText, IsNarrow, IsUnbuilt, IsReached}
+
+-- One file is read as a record, seen by view: it is there in the told files; or it is there and reads as no record; or a read
+-- fault rose. The count of read faults stands still at any other answer than a fault.
+abbrev pub ReadsFile : {A R : Type 0} → Option (List FileEntry) → FileKind → List ℕ → (List ℕ → R → Type 0) → (A → R) → ℕ → ℕ → Result A Stop → Type 0
+ReadsFile files kind name IsRead view before now (Ok answer) = IfSome files (λ told. HasText told name IsRead (view answer)) × (now ≡ before)
+ReadsFile files kind name IsRead view before now (Err (Unbuilt k)) = (k ≡ kind) × IfSome files (λ told. HasOtherText told name IsRead) × (now ≡ before)
+ReadsFile files kind name IsRead view before now (Err (Unread k)) = (k ≡ kind) × Rose before now
+ReadsFile files kind name IsRead view before now (Err Memory) = now ≡ before
+
+-- the text is the report of the design that the files spell
+pub record IsReportOf (files : List FileEntry) (word text : List ℕ) : Type 0 where
+  pub design : NarrowDesign
+  pub narrow : IsNarrow files word design
+  pub lo : List ℕ
+  pub hi : List ℕ
+  pub least : IsLeast (system_of design) lo
+  pub greatest : IsGreatest (system_of design) hi
+  pub told : text ≡ report_of design lo hi
+
+-- the same of all five files and the report
+abbrev pub Places : Option (List FileEntry) → List ℕ → ℕ → ℕ → Result (List ℕ) Stop → Type 0
+Places files word before now (Ok text) = IfSome files (λ told. IsReportOf told word text) × (now ≡ before)
+Places files word before now (Err (Unbuilt kind)) = IfSome files (λ told. IsUnbuilt told word kind) × (now ≡ before)
+Places files word before now (Err (Unread kind)) = IfSome files (λ told. IsReached told word kind) × Rose before now
+Places files word before now (Err Memory) = now ≡ before
+
+-- a refusal and a fault are never of the weights
+abbrev pub HasNoWeights : {A : Type 0} → Result A Stop → Type 0
+HasNoWeights (Ok answer) = Unit {0}
+HasNoWeights (Err (Unbuilt kind)) = kind ≡ Wts → ⊥
+HasNoWeights (Err (Unread kind)) = kind ≡ Wts → ⊥
+HasNoWeights (Err Memory) = Unit {0}
+
+-- the answer with its bytes as a list
+abbrev pub text_of : Result (Vec ℕ Global) Stop → Result (List ℕ) Stop
+text_of (Ok text) = Ok text.items
+text_of (Err stop) = Err stop
