@@ -1,5 +1,5 @@
 -- Files of a folder: names with bytes.
-use Rattle.std.specs.Prelude.{◌≡◌, ℕ, Bool, List, [], ◌∷◌, ◌++◌, length, Option, slice_get, slice_set, option_map, bytes_eq, nat_lt, map, if◌then◌else◌, AllPairs, ◌≢◌, IsSome}
+use Rattle.std.specs.Prelude.{ℕ, List, [], ◌∷◌, ◌++◌, length, Option, slice_get, slice_set, option_map, bytes_eq, nat_lt, if◌then◌else◌, AllPairs, ◌≢◌}
 use Rattle.std.specs.List.{position_or_len}
 
 pub record FileEntry : Type 0 where

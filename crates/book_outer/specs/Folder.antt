@@ -1,5 +1,5 @@
 -- What the calls of a folder do to what it tells. Where it doesn't tell its files, only whether a file is open is known.
-use Rattle.std.specs.Prelude.{◌≡◌, ℕ, ◌+◌, ◌≤◌, List, [], ◌∷◌, ◌++◌, length, take, drop, Option, Some, None, IsSome, Result, Ok, Err, is_some, unwrap_or, if◌then◌else◌}
+use Rattle.std.specs.Prelude.{◌≡◌, ℕ, ◌+◌, ◌≤◌, List, [], ◌++◌, length, take, drop, Option, Some, None, IsSome, Result, Ok, Err, is_some, unwrap_or, if◌then◌else◌}
 use Rattle.book_outer.specs.declared.trouble.Trouble.{Trouble}
 use Rattle.book_outer.specs.Cause.{one_more}
 use Rattle.book_outer.specs.Files.{FileEntry, content, with_content}

@@ -2,4 +2,5 @@ pub mod Cause
 pub mod Files
 pub mod Folder
 pub mod Sink
+pub mod Store
 pub mod Memory

@@ -1,7 +1,17 @@
 -- What a folder and a sink in memory hold.
-use Rattle.std.specs.Prelude.{ℕ, List, Option}
+use Rattle.std.specs.Prelude.{ℕ, Bool, List, Option, ◌==◌}
+use Rattle.std.specs.List.{list_any}
+use Rattle.book_outer.specs.Cause.{one_more}
 use Rattle.book_outer.specs.Files.{FileEntry}
 use Rattle.book_outer.specs.Folder.{Reading}
+
+-- a folder in memory that never fails: its files, the one that is being read, the one that is being written, and its counts
+pub record StoredFiles : Type 0 where
+  pub files : List FileEntry
+  pub reading : Option Reading
+  pub writing : Option (List ℕ)
+  pub begun : ℕ
+  pub missed : ℕ
 
 -- a folder in memory: its files, the numbers of the calls that are to fail, how many calls there were, and the rest
 pub record MemoryFiles : Type 0 where
@@ -21,3 +31,7 @@ pub record MemoryBytes : Type 0 where
   pub failing : List ℕ
   pub calls : ℕ
   pub faults : ℕ
+
+-- whether the next call is to fail, after so many calls
+abbrev pub is_to_fail : List ℕ → ℕ → Bool
+is_to_fail failing calls = list_any (λ number. number == one_more calls) failing

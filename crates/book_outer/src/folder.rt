@@ -1,4 +1,4 @@
-ghost use Rattle.std.specs.Prelude.{◌≡◌, ℕ, ◌<◌, List, length, Option, IsSome};
+ghost use Rattle.std.specs.Prelude.{◌≡◌, ℕ, ◌<◌, List, length, Option, None, IsSome};
 ghost use Rattle.book_outer.specs.Cause.{one_more, HasCause};
 ghost use Rattle.book_outer.specs.Files.{FileEntry};
 ghost use Rattle.book_outer.specs.Folder.{Reading, Begins, Reads, Creates, Puts, missed_after};
@@ -66,4 +66,7 @@ pub trait Folder {
         ensures missed { missed self.new ≡ missed self.old }
         ensures cause { HasCause (write_faults self.old) (write_faults self.new) result }
         ensures read_faults { read_faults self.new ≡ read_faults self.old };
+
+    /// Where the files aren't told, no name is counted as missed.
+    ghost untold: { (folder : Self) → files folder ≡ None → missed folder ≡ 0 };
 }

@@ -8,14 +8,17 @@
 //! The contract: an answer Failed comes only where a count of faults rose in that call.
 #![tactic(auto)]
 
+mod calm;
 mod folder;
 mod gate;
 mod host;
 mod lists;
 mod memory;
 mod sink;
+mod store;
 mod trouble;
 
+pub use calm::{CalmFolder, CalmSink};
 pub use folder::Folder;
 pub use gate::{Gate, OpenGate};
 pub use host::{HostFolder, StdSink};

@@ -1,4 +1,5 @@
-ghost use Rattle.std.specs.Prelude.{◌≡◌, ◌<◌, ◌++◌, [], ◌∷◌, length, slice_index_or, OnOk, OnErr};
+ghost use Rattle.std.specs.Prelude.{position, bytes_eq, ◌≡◌, ◌<◌, ◌++◌, [], ◌∷◌, length, slice_index_or, string_bytes, IfOk, OnOk, OnErr};
+ghost use Rattle.book_outer.specs.Store.{entries, entry_at, with_bytes};
 
 use book_text::Memory;
 use std::alloc::Global;
@@ -9,6 +10,18 @@ use std::marker::Model;
 pub(crate) struct File {
     pub(crate) name: String,
     pub(crate) bytes: Vec<u8>,
+}
+
+impl File {
+    fn copied(alloc: Global, name: &str, bytes: &[u8]) -> Result<File, Memory>
+        ensures name { IfOk result (λ file. string_bytes file.name ≡ name.now) }
+        ensures bytes { IfOk result (λ file. file.bytes.items ≡ bytes.now) }
+    {
+        Ok(File {
+            name: String::from_str(alloc, name)?,
+            bytes: bytes.to_vec(alloc)?,
+        })
+    }
 }
 
 /// Files for a folder in memory, each with its name.
@@ -43,8 +56,91 @@ impl Files {
         ensures pushed { OnOk result (self.new ≡ self.old ++ record { name = name.now; bytes = bytes.now } ∷ []) }
         ensures kept { OnErr result (self.new ≡ self.old) }
     {
-        todo
+        Ok(self.items.push(File::copied(self.alloc, name, bytes)?)?)
     }
+}
+
+impl Files {
+    ghost use Rattle.std.specs.Prelude.{None, MatchOption};
+    ghost use Rattle.book_outer.specs.Files.{content, with_content};
+    ghost use Rattle.book_outer.specs.Store.{IsNamed};
+
+    /// The place of the first file of that name.
+    pub(crate) fn find(&self, name: &str) -> Option<usize>
+        ensures { MatchOption result (content self.now name.now ≡ None) (IsNamed self.now name.now) }
+    {
+        position_of(&self.items, name)
+    }
+
+    /// What the file at a place holds.
+    pub(crate) fn bytes(&self, at: usize) -> &[u8]
+        requires { at < length self.now }
+        ensures { result.now ≡ (entry_at self.now at).bytes }
+    {
+        &self.items[at].bytes
+    }
+
+    /// Makes the file of that name empty, or adds one, and says where it stands.
+    pub(crate) fn create(&mut self, name: &str) -> Result<usize, Memory>
+        ensures created { OnOk result (self.new ≡ with_content self.old name.now []) }
+        ensures place { IfOk result (IsNamed self.new name.now) }
+        ensures kept { OnErr result (self.new ≡ self.old) }
+    {
+        match self.find(name) {
+            Some(at) => {
+                self.empty(at);
+                Ok(at)
+            }
+            None => {
+                let at = self.len();
+                self.push(name, &[])?;
+                Ok(at)
+            }
+        }
+    }
+
+    fn len(&self) -> usize
+        ensures { result ≡ length self.now }
+    {
+        self.items.len()
+    }
+
+    fn empty(&mut self, at: usize)
+        requires { at < length self.old }
+        ensures { self.new ≡ with_bytes self.old at [] }
+    {
+        empty_at(&mut self.items, at);
+    }
+
+    /// Puts bytes behind those of the file at a place. On want of memory the files are as before.
+    pub(crate) fn extend(&mut self, at: usize, bytes: &[u8]) -> Result<(), Memory>
+        requires { at < length self.old }
+        ensures extended { OnOk result (self.new ≡ with_bytes self.old at ((entry_at self.old at).bytes ++ bytes.now)) }
+        ensures kept { OnErr result (self.new ≡ self.old) }
+    {
+        extend_at(&mut self.items, at, bytes)
+    }
+}
+
+fn position_of(files: &[File], name: &str) -> Option<usize>
+    ensures { result ≡ position (λ file. bytes_eq (string_bytes file.name) name.now) files.now }
+{
+    files.iter().position(|file| file.name.as_str() == name)
+}
+
+fn empty_at(files: &mut [File], at: usize)
+    requires { at < length files.old }
+    ensures { entries files.new ≡ with_bytes (entries files.old) at [] }
+{
+    files[at].bytes.clear();
+}
+
+fn extend_at(files: &mut [File], at: usize, bytes: &[u8]) -> Result<(), Memory>
+    requires { at < length files.old }
+    ensures extended { OnOk result (entries files.new ≡ with_bytes (entries files.old) at ((entry_at (entries files.old) at).bytes ++ bytes.now)) }
+    ensures kept { OnErr result (entries files.new ≡ entries files.old) }
+{
+    Ok(files[at].bytes.extend_from_slice(bytes)?)
 }
 
 /// Numbers of calls, counted from 1.
@@ -118,7 +214,7 @@ impl Words {
         ensures pushed { OnOk result (self.new ≡ self.old ++ word.now ∷ []) }
         ensures kept { OnErr result (self.new ≡ self.old) }
     {
-        todo
+        Ok(self.items.push(String::from_str(self.alloc, word)?)?)
     }
 
     /// How many words there are.

@@ -1,4 +1,4 @@
-ghost use Rattle.std.specs.Prelude.{ℕ, List, Option};
+ghost use Rattle.std.specs.Prelude.{◌≡◌, ℕ, List, Option, None};
 ghost use Rattle.book_outer.specs.Cause.{HasCause};
 ghost use Rattle.book_outer.specs.Sink.{Gets};
 
@@ -15,5 +15,6 @@ pub trait Sink {
     /// Puts bytes behind what was written.
     fn put(&mut self, bytes: &[u8]) -> Result<(), Trouble>
         ensures gets { Gets (written self.old) (written self.new) bytes.now result }
+        ensures untold { written self.old ≡ None → written self.new ≡ None }
         ensures cause { HasCause (faults self.old) (faults self.new) result };
 }

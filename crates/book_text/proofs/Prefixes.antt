@@ -1,12 +1,12 @@
 -- What a list begins with, up to the first element that passes or fails a test, and what it ends with.
-use Rattle.std.proofs.Common.{◌≡◌, ℕ, ◌+◌, ◌-◌, ◌<◌, ◌≤◌, Bool, true, false, not, cond, ltb, Some, None, List, [], ◌∷◌, ◌++◌, length, take, drop, get_or, refl, sym, ap, ◌∙◌, ⊎_elim, arith}
+use Rattle.std.proofs.Common.{◌≡◌, ◌==◌, ℕ, ◌+◌, ◌-◌, ◌<◌, ◌≤◌, Bool, true, false, not, cond, ltb, Some, None, List, [], ◌∷◌, ◌++◌, length, take, drop, get_or, replicate, refl, sym, ap, ◌∙◌, ⊎_elim, arith}
 use Rattle.std.proofs.Math.Numerals.{one-add}
 use Rattle.std.specs.Prelude.{reverse}
 use Rattle.std.specs.List.{slice_split, onto_first, prefix_len, suffix_len, position_or_len, before_first, flat_map}
-use Rattle.std.proofs.lemmas.Bool.{cases_Bool, cases_lt, both_ways, ltb-false, not_from_true, not_from_false}
-use Rattle.std.proofs.lemmas.List.{length-reverse, get_or-reverse, reverse-reverse}
+use Rattle.std.proofs.lemmas.Bool.{cases_Bool, cases_lt, both_ways, ltb-false, eqb-true, not_from_true, not_from_false}
+use Rattle.std.proofs.lemmas.List.{length-drop, length-replicate, length-reverse, ext_get_or, get_or-drop, get_or-replicate, get_or-reverse, reverse-reverse}
 use Rattle.std.proofs.lemmas.List.Splits.{slice_split-cons_yes, slice_split-cons_no}
-use Rattle.std.proofs.lemmas.List.Sums.{prefix_len-le-length, prefix_len_passes}
+use Rattle.std.proofs.lemmas.List.Sums.{prefix_len-le-length, suffix_len-le-length, prefix_len_passes, prefix_len_stops}
 
 module _ (p : ℕ → Bool) where
   pub prefix_len-yes : (x : ℕ) (xs : List ℕ) → p x ≡ true → prefix_len p (x ∷ xs) ≡ 1 + prefix_len p xs
@@ -36,11 +36,31 @@ module _ (p : ℕ → Bool) where
       ap (λ ys. get_or ys i 0) (sym (reverse-reverse xs)) ∙ get_or-reverse (reverse xs) i 0 (omega arith) in
       ap p same ∙ prefix_len_passes p (reverse xs) from_end 0 (omega arith)
 
+  -- the element before them fails
+  pub suffix_len_stops : (xs : List ℕ) → suffix_len p xs < length xs → p (get_or xs (length xs - suffix_len p xs - 1) 0) ≡ false
+  suffix_len_stops xs some =
+      let n = suffix_len p xs in let i = length xs - n - 1 in let same_length : length (reverse xs) ≡ length xs = length-reverse xs in
+      let from_end : length (reverse xs) - 1 - i ≡ n = omega arith in
+      let same : get_or xs i 0 ≡ get_or (reverse xs) n 0 =
+      ap (λ ys. get_or ys i 0) (sym (reverse-reverse xs)) ∙ get_or-reverse (reverse xs) i 0 (omega arith) ∙ ap (λ k. get_or (reverse xs) k 0) from_end in
+      ap p same ∙ prefix_len_stops p (reverse xs) 0 (omega arith)
+
   -- where the first element fails, it is not among the last that pass
   pub suffix_len-front_no : (x : ℕ) (xs : List ℕ) → p x ≡ false → suffix_len p (x ∷ xs) ≤ length xs
   suffix_len-front_no x xs other = ⊎_elim
       (λ all. absurd (both_ways _ other (suffix_len_passes (x ∷ xs) 0 (omega arith) (omega arith)))) (λ le. le)
       (cases_lt (length xs) (suffix_len p (x ∷ xs)))
+
+-- what is behind the last element other than b is as many b
+pub behind_suffix : (b : ℕ) (xs : List ℕ) → drop (length xs - suffix_len (λ x. x == b) xs) xs ≡ replicate (suffix_len (λ x. x == b) xs) b
+behind_suffix b xs =
+    let n = suffix_len (λ x. x == b) xs in let front = length xs - n in let le : n ≤ length xs = suffix_len-le-length (λ x. x == b) xs in
+    let same_length : length (drop front xs) ≡ n = omega (arith, length-drop front xs) in
+    ext_get_or 0 _ _ (same_length ∙ sym (length-replicate n b))
+    (λ i lt.
+    let lt_n : i < n = omega arith in
+    get_or-drop front xs i 0 ∙ eqb-true _ b (suffix_len_passes (λ x. x == b) xs (front + i) (omega arith) (omega arith))
+    ∙ sym (get_or-replicate n i b 0 lt_n))
 
 -- the parts of a list between the elements that pass, by the first part and what is left behind it
 module _ (p : ℕ → Bool) (f : List ℕ → List (List ℕ)) (none : f [] ≡ []) where

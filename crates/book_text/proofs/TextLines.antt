@@ -8,17 +8,17 @@ use Rattle.book_text.proofs.Prefixes.{prefix_len-yes, prefix_len-no, take_prefix
 use Rattle.book_text.proofs.Words.{words_of-colon, words_of-blanks, first_word}
 use Rattle.book_text.specs.Lines.{is_blank, is_colon, words_of, lines_of, has_content, is_comment_word, content_from}
 
-abbrev is_line_end : ℕ → Bool
+abbrev pub is_line_end : ℕ → Bool
 is_line_end b = b == 10
 
 -- where the first line of a text ends
 abbrev pub first_end : List ℕ → ℕ
 first_end text = position_or_len is_line_end text
 
-lines_of-end : (b : ℕ) (text : List ℕ) → is_line_end b ≡ true → lines_of (b ∷ text) ≡ [] ∷ lines_of text
+pub lines_of-end : (b : ℕ) (text : List ℕ) → is_line_end b ≡ true → lines_of (b ∷ text) ≡ [] ∷ lines_of text
 lines_of-end b text e = rw e refl
 
-lines_of-more : (b : ℕ) (text : List ℕ) → is_line_end b ≡ false → lines_of (b ∷ text) ≡ onto_first b (lines_of text)
+pub lines_of-more : (b : ℕ) (text : List ℕ) → is_line_end b ≡ false → lines_of (b ∷ text) ≡ onto_first b (lines_of text)
 lines_of-more b text e = rw e refl
 
 -- the first line of a text, given the same of what is behind its first byte

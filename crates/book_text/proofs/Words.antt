@@ -1,11 +1,11 @@
 -- The words of a line, from its front: blanks are passed over, a colon in front is a word, and so is a run up to its colons.
-use Rattle.std.proofs.Common.{◌≡◌, ℕ, ◌+◌, ◌-◌, ◌<◌, ◌≤◌, Bool, true, false, not, suc, zero, List, [], ◌∷◌, ◌++◌, length, take, drop, replicate, refl, sym, ap, subst, ◌∙◌, ⊎_elim, arith}
+use Rattle.std.proofs.Common.{◌≡◌, ℕ, ◌-◌, ◌<◌, ◌≤◌, Bool, true, false, not, suc, zero, List, [], ◌∷◌, ◌++◌, length, take, drop, replicate, refl, sym, ap, subst, ◌∙◌, ⊎_elim, arith}
 use Rattle.std.proofs.Math.Numerals.{one-add}
 use Rattle.std.specs.List.{slice_split, onto_first, prefix_len, suffix_len, position_or_len, before_first, flat_map}
-use Rattle.std.proofs.lemmas.Bool.{cases_Bool, eqb-true, not_from_false}
-use Rattle.std.proofs.lemmas.List.{length-drop, length-take-le, length-replicate, ext_get_or, get_or-drop, get_or-replicate, drop-append-le, take-take, take-append-drop}
-use Rattle.std.proofs.lemmas.List.Sums.{prefix_len-le-length, suffix_len-le-length}
-use Rattle.book_text.proofs.Prefixes.{prefix_len-no, take_prefix-yes, drop_prefix-yes, drop_prefix-no, suffix_len_passes, suffix_len-front_no, flat_map-slice_split}
+use Rattle.std.proofs.lemmas.Bool.{cases_Bool, not_from_false}
+use Rattle.std.proofs.lemmas.List.{length-take-le, drop-append-le, take-take, take-append-drop}
+use Rattle.std.proofs.lemmas.List.Sums.{prefix_len-le-length}
+use Rattle.book_text.proofs.Prefixes.{prefix_len-no, take_prefix-yes, drop_prefix-yes, drop_prefix-no, behind_suffix, suffix_len-front_no, flat_map-slice_split}
 use Rattle.book_text.specs.Lines.{is_blank, is_colon, colons, before_colons, words_of_run, words_of}
 
 -- a colon at the start of a run is a word of its own
@@ -38,16 +38,6 @@ words_of-blanks (b ∷ line) =
 -- the words of the run at a line's start come before those of the rest
 pub words_of-run : (line : List ℕ) → words_of line ≡ words_of_run (before_first is_blank line) ++ words_of (drop (position_or_len is_blank line) line)
 words_of-run line = flat_map-slice_split is_blank words_of_run refl line
-
--- what is behind the last byte that is no colon is colons
-pub behind_before_colons : (run : List ℕ) → drop (length run - suffix_len is_colon run) run ≡ replicate (suffix_len is_colon run) 58
-behind_before_colons run =
-    let n = suffix_len is_colon run in let front = length run - n in let le : n ≤ length run = suffix_len-le-length is_colon run in
-    let same_length : length (drop front run) ≡ n = omega (arith, length-drop front run) in
-    ext_get_or 0 _ _ (same_length ∙ sym (length-replicate n 58)) (λ i lt.
-    let lt_n : i < n = omega arith in
-    get_or-drop front run i 0 ∙ eqb-true _ 58 (suffix_len_passes is_colon run (front + i) (omega arith) (omega arith))
-    ∙ sym (get_or-replicate n i 58 0 lt_n))
 
 -- a run that doesn't begin with a colon is one word and the colons behind it
 pub words_of_run-word : (b : ℕ) (run : List ℕ) → is_colon b ≡ false → words_of_run (b ∷ run) ≡ before_colons (b ∷ run) ∷ colons (suffix_len is_colon (b ∷ run))
@@ -112,7 +102,7 @@ first_word_cons b rest no_blank no_colon =
       some = omega (arith, r.some);
       within = omega arith;
       words = words_of-split line n k (prefix_len-le-length (λ x. not (is_blank x)) line) (omega (arith, r.some)) (words_of-run line) r.words
-          (ap (λ m. drop (m - k) run) (sym r.length_is) ∙ behind_before_colons run);
+          (ap (λ m. drop (m - k) run) (sym r.length_is) ∙ behind_suffix 58 run);
     }
 
 pub first_word : (line rest : List ℕ) (b : ℕ) → line ≡ b ∷ rest → is_blank b ≡ false → is_colon b ≡ false → FirstWord line (word_end line)

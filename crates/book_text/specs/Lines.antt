@@ -1,6 +1,6 @@
 -- The lines of a text and the words of a line. The whole text is cut into a list of lines, each a list of words.
-use Rattle.std.specs.Prelude.{ℕ, ◌+◌, ◌-◌, Bool, false, not, ◌||◌, ◌==◌, List, [], ◌∷◌, ◌++◌, length, take, drop, replicate, filter, flat_map, if◌then◌else◌}
-use Rattle.std.specs.List.{slice_split, onto_first, prefix_len, suffix_len}
+use Rattle.std.specs.Prelude.{◌≡◌, ◌≢◌, ℕ, ◌+◌, ◌-◌, ◌<◌, ◌⊎◌, Bool, true, false, not, ◌||◌, ◌==◌, List, [], ◌∷◌, ◌++◌, length, slice_index, take, drop, replicate, filter, flat_map, if◌then◌else◌}
+use Rattle.std.specs.List.{slice_split, onto_first, prefix_len, suffix_len, list_all, join_with_byte}
 
 -- a space, a tab or a carriage return
 abbrev pub is_blank : ℕ → Bool
@@ -33,6 +33,21 @@ words_of_run run = colons (prefix_len is_colon run) ++ (word_or_none (before_col
 -- the words of a line: those of its runs between blanks
 abbrev pub words_of : List ℕ → List (List ℕ)
 words_of line = flat_map words_of_run (slice_split is_blank line)
+
+-- a byte that a word may hold: no blank and no line's end
+abbrev pub is_word_byte : ℕ → Bool
+is_word_byte b = not (is_blank b || (b == 10))
+
+-- A word of a line: it isn't empty, it has neither a blank nor a line's end, and no colon stands at its start or at its
+-- end, or it is one colon.
+pub record IsWord (word : List ℕ) : Type 0 where
+  pub some : 0 < length word
+  pub unbroken : list_all is_word_byte word ≡ true
+  pub colons : (word ≡ 58 ∷ []) ⊎ ((slice_index word 0 ≢ 58) × (slice_index word (length word - 1) ≢ 58))
+
+-- a line of these words, with one space between each two
+abbrev pub spaced : List (List ℕ) → List ℕ
+spaced words = join_with_byte 32 words
 
 -- the lines of a text: each is ended by the byte 10, which the last one may lack
 abbrev pub lines_of : List ℕ → List (List ℕ)

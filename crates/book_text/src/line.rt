@@ -1,8 +1,8 @@
 //! The lines of a text and the words of a line, walked by places.
 
-ghost use Rattle.std.specs.Prelude.{◌≡◌, ◌+◌, ◌-◌, ◌≤◌, ◌==◌, [], length, drop, slice_range, MatchOption};
+ghost use Rattle.std.specs.Prelude.{◌≡◌, ℕ, ◌+◌, ◌-◌, ◌≤◌, ◌==◌, List, [], ◌∷◌, ◌++◌, All, length, drop, slice_range, MatchOption};
 ghost use Rattle.std.specs.List.{prefix_len, suffix_len, position_or_len, count_by};
-ghost use Rattle.book_text.specs.Lines.{is_blank, is_colon, has_content, lines_of, words_of, content_from};
+ghost use Rattle.book_text.specs.Lines.{is_blank, is_colon, IsWord, spaced, NumberedLine, has_content, lines_of, words_of, content_from};
 ghost use Rattle.book_text.specs.Walk.{IsNextLine, IsNextWord};
 
 /// A part of a text: the places from `from` up to, but not including, `to`.
@@ -165,3 +165,13 @@ fn is_blank(byte: u8) -> bool
 {
     matches!(byte, b' ' | b'\t' | b'\r')
 }
+
+/// A law: a line of words with one space between each two has exactly these words and is one line, and what stands in
+/// the lines of any text are words.
+pub fn spaced_words()
+    ensures words { (words : List (List ℕ)) → All IsWord words → words_of (spaced words) ≡ words }
+    ensures one_line { (words : List (List ℕ)) (text : List ℕ) → All IsWord words
+        → lines_of (spaced words ++ 10 ∷ text) ≡ spaced words ∷ lines_of text }
+    ensures found { (number : ℕ) (text : List ℕ)
+        → All (λ (line : NumberedLine). All IsWord line.words) (content_from number text) }
+{}

@@ -13,16 +13,18 @@ pub enum NumberFault {
 }
 
 /// The most bytes of a number word.
-const MOST_DIGITS: usize = 30;
+pub(crate) const MOST_BYTES: usize = 30;
 
 /// The greatest value of a whole word.
 const MOST_WHOLE: u64 = 1 << 40;
 
-/// The value of a whole word, 1 to 30 digits and nothing else, of at most 2^40.
+/// The value of a whole word: 1 to 30 digits and nothing else, or it is `NotNumber`.
+///
+/// The value is at most 2^40, or else it is `OutOfRange`.
 pub fn read_whole(word: &[u8]) -> Result<u64, NumberFault>
     ensures { result ≡ whole_value word.now }
 {
-    if word.is_empty() || word.len() > MOST_DIGITS {
+    if word.is_empty() || word.len() > MOST_BYTES {
         return Err(NumberFault::NotNumber);
     }
     let mut value: u64 = 0;

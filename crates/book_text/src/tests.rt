@@ -1,5 +1,8 @@
-use crate::{NumberFault, Span, count_lines, next_line, next_word, read_whole};
+use crate::{
+    Micro, NumberFault, Span, count_lines, next_line, next_word, put_micro, read_micro, read_whole,
+};
 use std::process::Abort;
+use std::test::Fail;
 
 /// The words of the line are these, walked one by one.
 fn expect_words(rt: &impl Abort, line: &[u8], words: &[&[u8]]) {
@@ -113,4 +116,93 @@ fn whole_words_have_values(rt: HostRuntime) {
     for (word, value) in known {
         assert_eq!(rt; read_whole(word), value);
     }
+}
+
+#[test]
+fn decimals_have_values(rt: HostRuntime) {
+    let known: [(&[u8], i64); 20] = [
+        (b".5", 500_000),
+        (b"5.", 5_000_000),
+        (b"0.0000019", 1),
+        (b"-0.0000009", 0),
+        (b"1e6", 1_000_000_000_000),
+        (b"-1000000", -1_000_000_000_000),
+        (b"1000000.0000009", 1_000_000_000_000),
+        (b"-1000000.0000009", -1_000_000_000_000),
+        (b"0e99", 0),
+        (b"-0", 0),
+        (b"+18", 18_000_000),
+        (b"-12.345678", -12_345_678),
+        (b"1e+01", 10_000_000),
+        (b"25E-1", 2_500_000),
+        (b"1.5e-000000000000000000000009", 0),
+        (b"0.000000000000000000000002e9", 0),
+        (b"0.0000000000000000000000002e23", 20_000),
+        (b"999999999999999999999999e-20", 9_999_999_999),
+        (b"9e-99999999999999999999999999", 0),
+        (b"000000000000000000000000000042", 42_000_000),
+    ];
+    for (word, value) in known {
+        assert_eq!(rt; read_micro(word), Ok(Micro(value)));
+    }
+}
+
+#[test]
+fn other_words_have_faults(rt: HostRuntime) {
+    let far: [&[u8]; 6] = [
+        b"1000000.000001",
+        b"-1000000.000001",
+        b"1e7",
+        b"1e99999999999999999999999999",
+        b"0.0000000000000000000000002e32",
+        b"999999999999999999999999999999",
+    ];
+    for word in far {
+        assert_eq!(rt; read_micro(word), Err(NumberFault::OutOfRange));
+    }
+    let other: [&[u8]; 17] = [
+        b"",
+        b"+",
+        b".",
+        b"-.",
+        b"1e",
+        b"1e+",
+        b".e5",
+        b"e5",
+        b"%50",
+        b"1.2.3",
+        b"1e2e3",
+        b"1e2.0",
+        b"+-1",
+        b"1 ",
+        b"0x10",
+        b"12a",
+        b"0000000000000000000000000000042",
+    ];
+    for word in other {
+        assert_eq!(rt; read_micro(word), Err(NumberFault::NotNumber));
+    }
+}
+
+#[test]
+fn decimals_are_written(rt: HostRuntime) -> Result<(), Fail> {
+    let known: [(i128, &[u8]); 10] = [
+        (0, b"0"),
+        (-500_000, b"-0.5"),
+        (500_000, b"0.5"),
+        (1, b"0.000001"),
+        (-1, b"-0.000001"),
+        (10_000_000, b"10"),
+        (10_500_000, b"10.5"),
+        (-1_000_000_000_000, b"-1000000"),
+        (37_012_300, b"37.0123"),
+        (i128::MIN, b"-170141183460469231731687303715884.105728"),
+    ];
+    for (value, text) in known {
+        let mut out = b"X ".to_vec(rt.alloc())?;
+        put_micro(&mut out, value)?;
+        assert_eq!(rt; &out[..2], b"X ".as_slice());
+        assert_eq!(rt; &out[2..], text);
+    }
+    Ok(())
 }

@@ -1,5 +1,5 @@
 -- Webs of points, and chains of neighbours that lead to an anchored point.
-use Rattle.std.specs.Prelude.{◌≡◌, ℕ, ◌<◌, ◌≤◌, Bool, true, false, List, [], ◌∷◌, length, slice_index_or, All, Contains, IsTrue}
+use Rattle.std.specs.Prelude.{ℕ, ◌<◌, Bool, false, List, [], ◌∷◌, length, slice_index_or, All, Contains, IsTrue}
 
 -- a point of a web: its neighbours by number, and whether it is anchored
 pub record Joint : Type 0 where

@@ -5,11 +5,14 @@
 //! from which no chain of neighbours leads to one. The equations of a placement have one exact solution at most where each
 //! point has such a chain.
 //!
+//! The search goes breadth-first from the anchored points over the entries reversed, which are sorted once by counting.
+//!
 //! The contract: `reach` meets `Reaches`, and its refusal is `IsFirstUnanchored`.
 #![tactic(auto)]
 
 mod search;
 mod steps;
+mod tellers;
 mod web;
 
 pub use search::{ReachError, reach};

@@ -1,0 +1,6 @@
+pub mod Kinds
+pub mod NarrowSystem
+pub mod Report
+pub mod Design
+pub mod Answers
+pub mod Codes

@@ -1,13 +1,12 @@
 //! Laws of the rounded equations. Each is the contract of a function that does nothing.
 
-ghost use Rattle.std.specs.Prelude.{◌≡◌, ℕ, ◌<◌, List, length};
+ghost use Rattle.std.specs.Prelude.{◌≡◌, ℕ, ◌<◌, List, length, ℤ};
 ghost use Rattle.pad_reach.specs.Chain.{HasChain};
 ghost use Rattle.relax_system.specs.declared.points.Point.{Point};
 ghost use Rattle.relax_system.specs.System.{IsValid, joints_of};
 ghost use Rattle.relax_system.specs.Means.{InBoxes, AtMost, IsFloorFixed, IsCeilFixed};
 ghost use Rattle.relax_system.specs.Extremal.{IsLeast, IsGreatest};
 ghost use Rattle.relax_system.specs.Exact.{IsExact, IsBetween, HasLowerResiduals, HasUpperResiduals};
-ghost use Rattle.std.specs.Prelude.{ℤ};
 
 /// A valid system has exactly one least vector, and it is the least fixed point of the rounded-down means.
 pub fn least_vector()
@@ -36,4 +35,16 @@ pub fn enclosure()
     ensures encloses { (points : List Point) (lo hi : List ℕ) (d : ℕ) (z : List ℤ) → IsValid points
         → ((p : ℕ) → p < length points → HasChain (joints_of points) p)
         → IsLeast points lo → IsGreatest points hi → IsExact points d z → IsBetween lo hi d z }
+{}
+
+/// Any two vectors with small residuals enclose every exact solution, where each point has a chain to an anchored point.
+pub fn residuals_enclose()
+    ensures ordered { (points : List Point) (lo hi : List ℕ) → IsValid points
+        → ((p : ℕ) → p < length points → HasChain (joints_of points) p)
+        → InBoxes points lo → InBoxes points hi → HasLowerResiduals points lo → HasUpperResiduals points hi
+        → AtMost lo hi }
+    ensures encloses { (points : List Point) (lo hi : List ℕ) (d : ℕ) (z : List ℤ) → IsValid points
+        → ((p : ℕ) → p < length points → HasChain (joints_of points) p)
+        → InBoxes points lo → InBoxes points hi → HasLowerResiduals points lo → HasUpperResiduals points hi
+        → IsExact points d z → IsBetween lo hi d z }
 {}

@@ -11,7 +11,10 @@
 //! each is the one fixed point of its kind, and that every exact solution lies between them.
 #![tactic(auto)]
 
+mod chains;
+mod flat;
 mod laws;
+mod mean;
 mod plain;
 mod points;
 mod side;
@@ -19,7 +22,7 @@ mod system;
 mod valid;
 mod values;
 
-pub use laws::{enclosure, greatest_vector, least_vector};
+pub use laws::{enclosure, greatest_vector, least_vector, residuals_enclose};
 pub use plain::{greatest_plain, least_plain};
 pub use points::{Near, NearList, Point, Points};
 pub use side::Side;

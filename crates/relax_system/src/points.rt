@@ -1,4 +1,5 @@
-ghost use Rattle.std.specs.Prelude.{◌≡◌, ◌++◌, [], ◌∷◌, OnOk, OnErr};
+ghost use Rattle.std.specs.Prelude.{◌≡◌, ◌-◌, ◌^◌, ◌++◌, [], ◌∷◌, min, OnOk, OnErr};
+ghost use Rattle.relax_system.specs.System.{near_weight, total_weight};
 
 use book_text::Memory;
 use std::alloc::Global;
@@ -14,16 +15,22 @@ pub struct Near {
 /// The neighbours of a point. A neighbour may stand in several entries.
 #[derive(Drop)]
 pub struct NearList {
-    pub(crate) items: Vec<Near>,
+    items: Vec<Near>,
+    // the sum of the weights, or the greatest u64 where it is more
+    weight: u64,
 }
 
 impl Model for NearList {
-    ghost use Rattle.std.specs.Prelude.{List};
+    ghost use Rattle.std.specs.Prelude.{◌≡◌, ◌-◌, ◌^◌, List, min};
     ghost use Rattle.relax_system.specs.declared.points.Near.{Near};
 
     ghost Value = { List Near };
 
+    ghost use Rattle.relax_system.specs.System.{near_weight};
+
     ghost view = { λ l. l.items.items };
+
+    ghost invariant = { λ l. l.weight ≡ min (near_weight l.items.items) (2 ^ 64 - 1) };
 }
 
 impl NearList {
@@ -33,6 +40,7 @@ impl NearList {
     {
         NearList {
             items: Vec::new(alloc),
+            weight: 0,
         }
     }
 
@@ -41,7 +49,16 @@ impl NearList {
         ensures pushed { OnOk result (self.new ≡ self.old ++ item ∷ []) }
         ensures kept { OnErr result (self.new ≡ self.old) }
     {
-        Ok(self.items.push(item)?)
+        self.items.push(item)?;
+        self.weight = self.weight.saturating_add(item.weight);
+        Ok(())
+    }
+
+    /// The sum of the weights, or the greatest u64 where it is more.
+    pub(crate) fn weight(&self) -> u64
+        ensures { result ≡ min (near_weight self.now) (2 ^ 64 - 1) }
+    {
+        self.weight
     }
 
     /// The neighbours.
@@ -65,6 +82,15 @@ pub struct Point {
     pub anchor: u64,
     /// The sum of weight times coordinate over the point's constants.
     pub anchored: u128,
+}
+
+impl Point {
+    /// The total weight, or the greatest u64 where it is more.
+    pub(crate) fn total_weight(&self) -> u64
+        ensures { result ≡ min (total_weight self.now) (2 ^ 64 - 1) }
+    {
+        self.anchor.saturating_add(self.near.weight())
+    }
 }
 
 /// The points of a system.

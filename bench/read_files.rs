@@ -1,0 +1,415 @@
+//! The readers of `.nodes` and `.pl` texts written by hand in plain Rust, to measure the proved ones against.
+//!
+//! Build and run it with `rustc -C opt-level=3 -C target-cpu=x86-64-v2 read_files.rs && ./read_files`. It makes texts of
+//! 50 MB in memory and prints the microseconds that each reading takes.
+
+use std::fmt::Write;
+use std::hint::black_box;
+use std::time::Instant;
+
+const SIZE: usize = 50_000_000;
+
+#[allow(dead_code)] // told where a text is bad
+#[derive(Debug)]
+enum Kind {
+    BadHeader,
+    BadLine,
+    BadNumber,
+    CountMismatch { told: u64, found: u64 },
+}
+
+#[allow(dead_code)] // told where a text is bad
+#[derive(Debug)]
+struct Fault {
+    line: u64,
+    kind: Kind,
+}
+
+struct NodeLine<'a> {
+    line: u64,
+    name: &'a [u8],
+    width: i64,
+    height: i64,
+    fixed: bool,
+}
+
+#[derive(Clone, Copy)]
+enum Orient {
+    N,
+    S,
+    E,
+    W,
+    FN,
+    FS,
+    FE,
+    FW,
+}
+
+struct PlaceLine<'a> {
+    line: u64,
+    name: &'a [u8],
+    x: i64,
+    y: i64,
+    orient: Orient,
+    fixed: bool,
+}
+
+fn is_blank(byte: u8) -> bool {
+    matches!(byte, b' ' | b'\t' | b'\r')
+}
+
+/// The words of a line, in one buffer that is used again.
+fn words_in<'a>(words: &mut Vec<&'a [u8]>, line: &'a [u8]) {
+    words.clear();
+    for run in line.split(|byte| is_blank(*byte)) {
+        let mut run = run;
+        while let [b':', rest @ ..] = run {
+            words.push(&run[..1]);
+            run = rest;
+        }
+        let mut end = run.len();
+        while end > 0 && run[end - 1] == b':' {
+            end -= 1;
+        }
+        if end > 0 {
+            words.push(&run[..end]);
+        }
+        for at in end..run.len() {
+            words.push(&run[at..at + 1]);
+        }
+    }
+}
+
+fn whole_of(word: &[u8]) -> Result<u64, Kind> {
+    if word.is_empty() || word.len() > 30 {
+        return Err(Kind::BadNumber);
+    }
+    let mut value: u64 = 0;
+    for byte in word {
+        if !byte.is_ascii_digit() {
+            return Err(Kind::BadNumber);
+        }
+        value = (value * 10 + u64::from(*byte - b'0')).min((1 << 40) + 1);
+    }
+    if value > 1 << 40 {
+        return Err(Kind::BadNumber);
+    }
+    Ok(value)
+}
+
+fn digits(number: u128, bytes: &[u8]) -> (u128, &[u8]) {
+    let mut number = number;
+    let mut rest = bytes;
+    while let [byte, behind @ ..] = rest {
+        if !byte.is_ascii_digit() {
+            break;
+        }
+        number = number * 10 + u128::from(*byte - b'0');
+        rest = behind;
+    }
+    (number, rest)
+}
+
+fn split_sign(word: &[u8]) -> (bool, &[u8]) {
+    match word {
+        [b'-', rest @ ..] => (true, rest),
+        [b'+', rest @ ..] => (false, rest),
+        _ => (false, word),
+    }
+}
+
+fn number_of(word: &[u8]) -> Result<i64, Kind> {
+    if word.len() > 30 {
+        return Err(Kind::BadNumber);
+    }
+    let (negative, unsigned) = split_sign(word);
+    let (mut number, mut rest) = digits(0, unsigned);
+    let mut count = unsigned.len() - rest.len();
+    let mut fraction = 0;
+    if let [b'.', behind @ ..] = rest {
+        (number, rest) = digits(number, behind);
+        fraction = behind.len() - rest.len();
+        count += fraction;
+    }
+    if count == 0 {
+        return Err(Kind::BadNumber);
+    }
+    let mut places = 6 - fraction as i128;
+    if let [b'e' | b'E', signed @ ..] = rest {
+        let (down, unsigned) = split_sign(signed);
+        let (moved, end) = digits(0, unsigned);
+        if unsigned.is_empty() || !end.is_empty() {
+            return Err(Kind::BadNumber);
+        }
+        places += if down {
+            -(moved as i128)
+        } else {
+            moved as i128
+        };
+    } else if !rest.is_empty() {
+        return Err(Kind::BadNumber);
+    }
+    const MOST: u128 = 1_000_000_000_000;
+    let size = if number == 0 || places < -30 {
+        0
+    } else if places >= 0 {
+        if places > 12 || number > MOST {
+            return Err(Kind::BadNumber);
+        }
+        number * 10u128.pow(places as u32)
+    } else {
+        number / 10u128.pow(-places as u32)
+    };
+    if size > MOST {
+        return Err(Kind::BadNumber);
+    }
+    Ok(if negative {
+        -(size as i64)
+    } else {
+        size as i64
+    })
+}
+
+fn size_of(word: &[u8]) -> Result<i64, Kind> {
+    match number_of(word)? {
+        size if size < 0 => Err(Kind::BadNumber),
+        size => Ok(size),
+    }
+}
+
+fn is_header(kind: &[u8], words: &[&[u8]]) -> bool {
+    match words {
+        [ucla, name, version, ..] => {
+            ucla.eq_ignore_ascii_case(b"ucla")
+                && name.eq_ignore_ascii_case(kind)
+                && *version == b"1.0"
+        }
+        _ => false,
+    }
+}
+
+fn is_keyed(key: &[u8], words: &[&[u8]]) -> bool {
+    matches!(words, [word, colon, ..] if *colon == b":" && word.eq_ignore_ascii_case(key))
+}
+
+fn count_of(told: bool, words: &[&[u8]]) -> Result<u64, Kind> {
+    match words {
+        [_, _, number] if !told => whole_of(number),
+        _ => Err(Kind::BadLine),
+    }
+}
+
+/// Each line that has words and is no comment, with its number; then the number behind the last line.
+fn each_line<'a>(
+    text: &'a [u8],
+    mut take: impl FnMut(u64, &[&'a [u8]]) -> Result<(), Kind>,
+) -> Result<u64, Fault> {
+    let mut words = Vec::new();
+    let mut rest = text;
+    let mut number = 1;
+    while !rest.is_empty() {
+        let end = rest.iter().position(|byte| *byte == b'\n');
+        let (line, behind) = match end {
+            Some(end) => (&rest[..end], &rest[end + 1..]),
+            None => (rest, &rest[rest.len()..]),
+        };
+        words_in(&mut words, line);
+        if words.first().is_some_and(|word| word[0] != b'#') {
+            take(number, &words).map_err(|kind| Fault { line: number, kind })?;
+        }
+        rest = behind;
+        number += 1;
+    }
+    Ok(number)
+}
+
+fn node_of<'a>(line: u64, words: &[&'a [u8]]) -> Result<NodeLine<'a>, Kind> {
+    let (name, width, height, fixed) = match words {
+        [name, width, height] => (name, width, height, false),
+        [name, width, height, mark] if mark.eq_ignore_ascii_case(b"terminal") => {
+            (name, width, height, true)
+        }
+        _ => return Err(Kind::BadLine),
+    };
+    Ok(NodeLine {
+        line,
+        name,
+        width: size_of(width)?,
+        height: size_of(height)?,
+        fixed,
+    })
+}
+
+fn read_nodes(text: &[u8]) -> Result<Vec<NodeLine<'_>>, Fault> {
+    let mut begun = false;
+    let mut total = None;
+    let mut terminals = None;
+    let mut lines = Vec::new();
+    let end = each_line(text, |number, words| {
+        if !begun {
+            if !is_header(b"nodes", words) {
+                return Err(Kind::BadHeader);
+            }
+            begun = true;
+        } else if is_keyed(b"numnodes", words) {
+            total = Some(count_of(total.is_some(), words)?);
+        } else if is_keyed(b"numterminals", words) {
+            terminals = Some(count_of(terminals.is_some(), words)?);
+        } else {
+            lines.push(node_of(number, words)?);
+        }
+        Ok(())
+    })?;
+    let found = lines.len() as u64;
+    let kind = match total {
+        _ if !begun => Kind::BadHeader,
+        None => Kind::BadLine,
+        Some(told) if told != found => Kind::CountMismatch { told, found },
+        Some(_) => return Ok(lines),
+    };
+    Err(Fault { line: end, kind })
+}
+
+fn orient_of(word: &[u8]) -> Option<Orient> {
+    const ORIENTS: [(&[u8], Orient); 8] = [
+        (b"n", Orient::N),
+        (b"s", Orient::S),
+        (b"e", Orient::E),
+        (b"w", Orient::W),
+        (b"fn", Orient::FN),
+        (b"fs", Orient::FS),
+        (b"fe", Orient::FE),
+        (b"fw", Orient::FW),
+    ];
+    ORIENTS
+        .iter()
+        .find(|(name, _)| word.eq_ignore_ascii_case(name))
+        .map(|(_, orient)| *orient)
+}
+
+fn place_of<'a>(line: u64, words: &[&'a [u8]]) -> Result<PlaceLine<'a>, Kind> {
+    let (front, fixed) = match words {
+        [front @ .., mark] if words.len() > 3 && mark.eq_ignore_ascii_case(b"/fixed") => {
+            (front, true)
+        }
+        _ => (words, false),
+    };
+    let (name, x, y, orient) = match front {
+        [name, x, y] => (name, x, y, Orient::N),
+        [name, x, y, colon, orient] if *colon == b":" => {
+            (name, x, y, orient_of(orient).ok_or(Kind::BadLine)?)
+        }
+        _ => return Err(Kind::BadLine),
+    };
+    Ok(PlaceLine {
+        line,
+        name,
+        x: number_of(x)?,
+        y: number_of(y)?,
+        orient,
+        fixed,
+    })
+}
+
+fn read_pl(text: &[u8]) -> Result<Vec<PlaceLine<'_>>, Fault> {
+    let mut begun = false;
+    let mut lines = Vec::new();
+    let end = each_line(text, |number, words| {
+        if begun {
+            lines.push(place_of(number, words)?);
+        } else if is_header(b"pl", words) {
+            begun = true;
+        } else {
+            return Err(Kind::BadHeader);
+        }
+        Ok(())
+    })?;
+    if begun {
+        Ok(lines)
+    } else {
+        Err(Fault {
+            line: end,
+            kind: Kind::BadHeader,
+        })
+    }
+}
+
+fn nodes_text() -> String {
+    let mut body = String::with_capacity(SIZE);
+    let mut count = 0;
+    for i in 0..4_000_000 {
+        if body.len() >= SIZE - 200 {
+            break;
+        }
+        let width = i % 37 + 1;
+        writeln!(body, "\to{i}\t{width}\t12").unwrap();
+        count += 1;
+    }
+    format!("UCLA nodes 1.0\n\nNumNodes : {count}\nNumTerminals : 0\n{body}")
+}
+
+fn places_text(decimals: bool) -> String {
+    let mut text = String::with_capacity(SIZE);
+    text.push_str("UCLA pl 1.0\n\n");
+    for i in 0..4_000_000 {
+        if text.len() >= SIZE - 200 {
+            break;
+        }
+        let x = i % 90_001;
+        let y = i % 7919 * 12;
+        if decimals {
+            writeln!(text, "o{i}\t{x}.500000\t{y}.250000\t: N").unwrap();
+        } else {
+            writeln!(text, "o{i}\t{x}\t{y}\t: N").unwrap();
+        }
+    }
+    text
+}
+
+fn main() {
+    let nodes = nodes_text();
+    let places = places_text(false);
+    let decimals = places_text(true);
+    for _ in 0..5 {
+        let start = Instant::now();
+        let lines = read_nodes(nodes.as_bytes()).expect("a good text");
+        let time = start.elapsed();
+        println!(
+            "nodes {} bytes {} lines {} us",
+            nodes.len(),
+            lines.len(),
+            time.as_micros()
+        );
+        black_box(
+            lines
+                .iter()
+                .map(|n| {
+                    n.line + n.name.len() as u64 + (n.width + n.height) as u64 + u64::from(n.fixed)
+                })
+                .fold(0, u64::wrapping_add),
+        );
+        for (what, text) in [("pl", &places), ("pl decimals", &decimals)] {
+            let start = Instant::now();
+            let lines = read_pl(text.as_bytes()).expect("a good text");
+            let time = start.elapsed();
+            println!(
+                "{what} {} bytes {} lines {} us",
+                text.len(),
+                lines.len(),
+                time.as_micros()
+            );
+            black_box(
+                lines
+                    .iter()
+                    .map(|p| {
+                        p.line
+                            + p.name.len() as u64
+                            + (p.x + p.y) as u64
+                            + p.orient as u64
+                            + u64::from(p.fixed)
+                    })
+                    .fold(0, u64::wrapping_add),
+            );
+        }
+    }
+}

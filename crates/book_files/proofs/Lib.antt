@@ -1,0 +1,14 @@
+pub mod FewLines
+pub mod Readings
+pub mod Names
+pub mod Progresses
+pub mod AuxSteps
+pub mod Items
+pub mod NodeSteps
+pub mod WeightSteps
+pub mod PlaceSteps
+pub mod FewRecords
+pub mod GoodRecords
+pub mod GoodNodes
+pub mod GoodWeights
+pub mod GoodPlaces

@@ -1,0 +1,10 @@
+pub mod Form
+pub mod Words
+pub mod Entries
+pub mod Aux
+pub mod Nodes
+pub mod Weights
+pub mod Places
+pub mod Laws
+pub mod Progress
+pub mod SoFar

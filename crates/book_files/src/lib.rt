@@ -1,0 +1,34 @@
+//! The Bookshelf files: whole texts to records, or exactly their first fault.
+//!
+//! It stands on the lines, words and numbers of texts, and below the joined design. What comes in is a file's bytes; what
+//! goes out are its records, which keep slices of the bytes, or the first fault with its line and its kind. Each reader
+//! goes over the bytes once.
+//!
+//! The contract: each reader meets `Answers` for its form. A form says what a line means behind the lines before it, and
+//! what all lines make; `one_answer` says that each text has exactly one answer by it.
+#![tactic(auto)]
+
+mod aux;
+mod fault;
+mod laws;
+mod name;
+mod nodes;
+mod orient;
+mod places;
+mod records;
+mod walk;
+mod weights;
+mod words;
+
+pub use aux::read_aux;
+pub use fault::{ReadError, TextFault, TextKind};
+pub use laws::{one_answer, records_are_few};
+pub use name::Name;
+pub use nodes::{NodeFile, read_nodes};
+pub use orient::Orient;
+pub use places::{PlaceFile, read_pl};
+pub use records::{AuxFile, FileKind, NodeLine, PlaceLine, WeightLine};
+pub use weights::{WeightFile, read_wts};
+
+#[cfg(test)]
+mod tests;

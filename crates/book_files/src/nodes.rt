@@ -1,0 +1,149 @@
+ghost use Rattle.std.specs.Prelude.{◌≡◌, map, List};
+ghost use Rattle.book_files.specs.Form.{Answers};
+ghost use Rattle.book_files.specs.Progress.{Gives};
+ghost use Rattle.book_files.specs.Nodes.{node_form, node, sized, node_of};
+ghost use Rattle.book_files.specs.Entries.{node_entry, node_entries};
+
+use crate::fault::{LineError, ReadError, TextKind, fault_at_end};
+use crate::name::Name;
+use crate::records::NodeLine;
+use crate::walk::{Progress, keep_lines};
+use crate::words::{count_of, is_header, is_keyed, is_keyword, size_of};
+use std::alloc::Global;
+use std::marker::Model;
+
+/// The nodes of a `.nodes` file.
+#[derive(Drop)]
+pub struct NodeFile<'a> {
+    lines: Vec<NodeLine<'a>>,
+}
+
+impl<'a> Model for NodeFile<'a> {
+    ghost use Rattle.std.specs.Prelude.{List};
+    ghost use Rattle.book_files.specs.Entries.{NodeEntry, node_entries};
+
+    ghost Value = { List NodeEntry };
+
+    ghost view = { λ f. node_entries f.lines.items };
+}
+
+impl<'a> NodeFile<'a> {
+    /// The lines in order.
+    pub fn as_slice(&self) -> &[NodeLine<'a>]
+        ensures { node_entries result.now ≡ self.now }
+    {
+        &self.lines
+    }
+}
+
+/// The nodes that a `.nodes` file has, or its first fault.
+pub fn read_nodes(alloc: Global, bytes: &[u8]) -> Result<NodeFile<'_>, ReadError>
+    ensures { Answers node_form (λ file. file) bytes.now result }
+{
+    let mut so_far = NodesSoFar {
+        begun: false,
+        total: None,
+        terminals_told: false,
+        lines: Vec::new(alloc),
+    };
+    keep_lines(alloc, bytes, &mut so_far)?;
+    match so_far.fault() {
+        None => Ok(NodeFile {
+            lines: so_far.lines,
+        }),
+        Some(kind) => Err(fault_at_end(bytes, kind)),
+    }
+}
+
+/// Whether the header was read, which counts were told, and the node lines.
+#[derive(Drop)]
+struct NodesSoFar<'a> {
+    begun: bool,
+    total: Option<u64>,
+    terminals_told: bool,
+    lines: Vec<NodeLine<'a>>,
+}
+
+impl<'a> NodesSoFar<'a> {
+    ghost use Rattle.book_files.specs.SoFar.{end_fault};
+
+    /// The fault where no line follows.
+    fn fault(&self) -> Option<TextKind>
+        ensures { result ≡ end_fault self.now }
+    {
+        if !self.begun {
+            return Some(TextKind::BadHeader);
+        }
+        let found = self.lines.len() as u64;
+        match self.total {
+            None => Some(TextKind::BadLine),
+            Some(told) if told != found => Some(TextKind::CountMismatch { told, found }),
+            Some(_) => None,
+        }
+    }
+}
+
+impl<'a> Progress<'a> for NodesSoFar<'a> {
+    ghost use Rattle.book_files.specs.Progress.{StandsFor, Refuses};
+    ghost use Rattle.book_files.specs.Nodes.{node_form};
+    ghost use Rattle.book_files.specs.SoFar.{IsNodesSoFar};
+
+    ghost stands_for = { StandsFor node_form IsNodesSoFar };
+
+    ghost refuses = { Refuses node_form };
+
+    fn keep(&mut self, number: u64, words: &[&'a [u8]]) -> Result<(), LineError> {
+        if !self.begun {
+            if !is_header(b"nodes", words) {
+                return Err(LineError::Kind(TextKind::BadHeader));
+            }
+            self.begun = true;
+        } else if is_keyed(b"numnodes", words) {
+            self.total = Some(count_of(self.total.is_some(), words)?);
+        } else if is_keyed(b"numterminals", words) {
+            count_of(self.terminals_told, words)?;
+            self.terminals_told = true;
+        } else {
+            self.lines.push(node_of(number, words)?)?;
+        }
+        Ok(())
+    }
+}
+
+/// A node line: three words, or four of which the last is `terminal`.
+fn node_of<'a>(number: u64, words: &[&'a [u8]]) -> Result<NodeLine<'a>, TextKind>
+    ensures { Gives (λ line. node (node_entry line)) result
+        (node_of number (map (λ w. w.now) words.now)) }
+{
+    match words {
+        [name, width, height] => sized(number, name, width, height, false),
+        [name, width, height, mark] => {
+            if is_keyword(b"terminal", mark) {
+                sized(number, name, width, height, true)
+            } else {
+                Err(TextKind::BadLine)
+            }
+        }
+        _ => Err(TextKind::BadLine),
+    }
+}
+
+/// A node of these sizes.
+fn sized<'a>(
+    number: u64,
+    name: &'a [u8],
+    width: &[u8],
+    height: &[u8],
+    fixed: bool,
+) -> Result<NodeLine<'a>, TextKind>
+    ensures { Gives (λ line. node (node_entry line)) result
+        (sized number name.now width.now height.now fixed) }
+{
+    Ok(NodeLine {
+        line: number,
+        name: Name(name),
+        width: size_of(width)?,
+        height: size_of(height)?,
+        fixed,
+    })
+}

@@ -1,0 +1,4 @@
+pub mod Residuals
+pub mod Mosts
+pub mod Verdicts
+pub mod Places

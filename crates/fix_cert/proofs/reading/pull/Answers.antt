@@ -1,0 +1,11 @@
+use Rattle.std.proofs.Common.{◌*◌, arith}
+use Rattle.std.specs.List.{slice_index}
+use Rattle.std.proofs.lemmas.List.Sums.{sum_by_more_le}
+use Rattle.relax_system.specs.declared.points.Near.{Near}
+use Rattle.fix_cert.proofs.reading.pull.Goals as goal
+
+pub overflow_add-sum : goal.overflow_add-sum
+overflow_add-sum c =
+    let near = c.as_slice-entry-items.result.now in
+    let fits = rw (← c.as_slice-entry-items.ensures) at c.requires.fits in
+    rw (c.from.ensures, c.from-in-loop-entry.ensures) (omega (arith, fits, c.loop-entry.invariant, sum_by_more_le (λ (n : Near). n.weight * slice_index c.args.v.now n.point) near c.loop-entry.entry-index (record { point = 0; weight = 0 }) (omega arith)))

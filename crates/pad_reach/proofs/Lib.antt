@@ -1,0 +1,4 @@
+mod Chains
+mod Placing
+mod Searching
+mod Told

@@ -1,0 +1,14 @@
+pub mod Division
+pub mod Pulls
+pub mod SideMeans
+pub mod Climbing
+pub mod Extremes
+pub mod Maximum
+pub mod Signed
+pub mod Enclosing
+pub mod Fits
+pub mod Sided
+pub mod Residuals
+pub mod Dots
+pub mod Rows
+pub mod Sweeping
