@@ -31,6 +31,7 @@ impl<'a> Model for Lines<'a> {
 }
 
 impl<'a> Lines<'a> {
+    /// All lines of the text.
     pub fn new(text: &'a [u8]) -> Self
         ensures { result ≡ word_lines text.now }
     {
