@@ -86,18 +86,33 @@ pub scl-reached : (files : Option (List FileEntry)) (word : List ℕ) (names : A
     → HasPlaces files word names nodes nets places → IfSome files (λ told. IsReached told word Scl)
 scl-reached None word names nodes nets places h = tt
 scl-reached (Some told) word names nodes nets places h =
-    let t = nodes-told told word names nodes h.before.before in
-    (names, nodes, nets, places, t.0, t.1, HasText-read told (beside word names.nets) (λ text. IsNetsText text nodes) nets h.before.of_nets,
-        HasText-read told (beside word names.pl) (λ text. IsPlText text nodes) places h.of_pl)
+    let t = nodes-told told word names nodes h.before.before in (
+      names,
+      nodes,
+      nets,
+      places,
+      t.0,
+      t.1,
+      HasText-read told (beside word names.nets) (λ text. IsNetsText text nodes) nets h.before.of_nets,
+      HasText-read told (beside word names.pl) (λ text. IsPlText text nodes) places h.of_pl,
+    )
 
 pub scl-unbuilt : (files : Option (List FileEntry)) (word : List ℕ) (names : AuxNames) (nodes : List NodeEntry) (nets : List NetEntry) (places : List PlaceEntry)
     → HasPlaces files word names nodes nets places
     → IfSome files (λ told. HasOtherText told (beside word names.scl) IsSclText) → IfSome files (λ told. IsUnbuilt told word Scl)
 scl-unbuilt None word names nodes nets places h other = tt
 scl-unbuilt (Some told) word names nodes nets places h other =
-    let t = nodes-told told word names nodes h.before.before in
-    (names, nodes, nets, places, t.0, t.1, HasText-read told (beside word names.nets) (λ text. IsNetsText text nodes) nets h.before.of_nets,
-        HasText-read told (beside word names.pl) (λ text. IsPlText text nodes) places h.of_pl, other)
+    let t = nodes-told told word names nodes h.before.before in (
+      names,
+      nodes,
+      nets,
+      places,
+      t.0,
+      t.1,
+      HasText-read told (beside word names.nets) (λ text. IsNetsText text nodes) nets h.before.of_nets,
+      HasText-read told (beside word names.pl) (λ text. IsPlText text nodes) places h.of_pl,
+      other,
+    )
 
 -- the report of what the five files gave
 pub IsReportOf-read : (files : Option (List FileEntry)) (word text : List ℕ) (names : AuxNames) (design : NarrowDesign)

@@ -70,14 +70,14 @@ nets_clash one files word a b n m nets h before k =
     let P : AuxNames → Type 0 = λ x. HasText files (beside word x.nets) (λ text. IsNetsText text n) nets in
     let Q : List NodeEntry → Type 0 = λ x. HasText files (beside word b.nets) (λ text. IsNetsText text x) nets in
     not_both files (beside word b.nets) (λ text. IsNetsText text m) nets
-        (subst Q (one_nodes one files word a b n m h.before before) (subst P (one_names one files word a b h.before.aux before.aux) h.nets_file)) k
+    (subst Q (one_nodes one files word a b n m h.before before) (subst P (one_names one files word a b h.before.aux before.aux) h.nets_file)) k
 
 pub places_clash : OneReading → (files : List FileEntry) (word : List ℕ) (a b : AuxNames) (n m : List NodeEntry) (nets : List NetEntry) (places : List PlaceEntry) → HasPlaces files word a n nets places → HasNodes files word b m → HasOtherText files (beside word b.pl) (λ text. IsPlText text m) → ⊥
 places_clash one files word a b n m nets places h before k =
     let P : AuxNames → Type 0 = λ x. HasText files (beside word x.pl) (λ text. IsPlText text n) places in
     let Q : List NodeEntry → Type 0 = λ x. HasText files (beside word b.pl) (λ text. IsPlText text x) places in
     not_both files (beside word b.pl) (λ text. IsPlText text m) places
-        (subst Q (one_nodes one files word a b n m h.before.before before) (subst P (one_names one files word a b h.before.before.aux before.aux) h.places_file)) k
+    (subst Q (one_nodes one files word a b n m h.before.before before) (subst P (one_names one files word a b h.before.before.aux before.aux) h.places_file)) k
 
 pub row_clash : OneReading → (files : List FileEntry) (word : List ℕ) (a b : AuxNames) (row : RowEntry) → HasText files word IsAuxText a → HasText files word IsAuxText b → HasText files (beside word a.scl) IsSclText row → HasOtherText files (beside word b.scl) IsSclText → ⊥
 row_clash one files word a b row h aux scl k =

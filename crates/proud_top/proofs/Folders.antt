@@ -15,7 +15,7 @@ slash_byte b h = rw h refl
 pub folder-last : (name : List ℕ) (k : ℕ) → k < length name → get_or name k 0 ≡ 47 → ((i : ℕ) → k < i → i < length name → get_or name i 0 ≢ 47) → folder_of name ≡ take (k + 1) name
 folder-last name k there slash behind =
     let tail : suffix_len is_no_slash name ≡ length name - (k + 1) = suffix_len_is is_no_slash name (k + 1) 0 (omega arith)
-        (λ i low high. other_byte (get_or name i 0) (behind i (omega arith) high)) (λ _. slash_byte (get_or name (k + 1 - 1) 0) (ap (λ (i : ℕ). get_or name i 0) (let e : k + 1 - 1 ≡ k = omega arith in e) ∙ slash)) in
+    (λ i low high. other_byte (get_or name i 0) (behind i (omega arith) high)) (λ _. slash_byte (get_or name (k + 1 - 1) 0) (ap (λ (i : ℕ). get_or name i 0) (let e : k + 1 - 1 ≡ k = omega arith in e) ∙ slash)) in
     let rest : length name - suffix_len is_no_slash name ≡ k + 1 = omega arith in
     ap (λ (n : ℕ). take n name) rest
 
@@ -23,6 +23,6 @@ folder-last name k there slash behind =
 pub folder-none : (name : List ℕ) → ((i : ℕ) → i < length name → get_or name i 0 ≢ 47) → folder_of name ≡ []
 folder-none name none =
     let tail : suffix_len is_no_slash name ≡ length name - 0 = suffix_len_is is_no_slash name 0 0 (omega arith)
-        (λ i low high. other_byte (get_or name i 0) (none i high)) (λ h. absurd (omega arith)) in
+    (λ i low high. other_byte (get_or name i 0) (none i high)) (λ h. absurd (omega arith)) in
     let rest : length name - suffix_len is_no_slash name ≡ 0 = omega arith in
     ap (λ (n : ℕ). take n name) rest

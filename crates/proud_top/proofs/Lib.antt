@@ -1,7 +1,6 @@
-pub mod Pieces
-pub mod Causes
-pub mod Folders
-pub mod Readings
+mod Pieces
+mod Folders
+mod Readings
 mod Movable
 mod Valid
 mod Numbering

@@ -32,6 +32,7 @@ pub one_numbered : (nodes : List Node) (index : ℕ) (numbers : List ℕ) (next 
 one_numbered nodes index numbers next h j less = by_case cases where
   cases : (j < length numbers) ⊎ (j ≡ length numbers)
   cases = let e = h.all in grind arith
+
   by_case : (j < length numbers) ⊎ (j ≡ length numbers) → slice_index (numbers ++ next ∷ []) j ≡ point_of (node_entries nodes) j
   by_case (inl before) = get_or_append_left numbers (next ∷ []) 0 j before ∙ h.each j (omega (arith, h.all))
   by_case (inr last) = ap (λ k. slice_index (numbers ++ next ∷ []) k) last ∙ get_or-append_seam numbers next [] 0 ∙ h.next_is ∙ ap (point_of (node_entries nodes)) (sym h.all ∙ sym last)

@@ -5,7 +5,6 @@ use Rattle.std.proofs.lemmas.List.{take-append-drop, take_at, length-take-le, ta
 use Rattle.std.proofs.Math.Seq.{drop-append_seam}
 use Rattle.book_outer.specs.Files.{FileEntry, content}
 use Rattle.book_outer.specs.Folder.{Reading, Begins, Reads, ReadsOn, TakesFront}
-use Rattle.proud_top.specs.Loading.{most_bytes, HasLongText}
 
 -- the file is there and begins with the bytes, and is read on behind them
 pub record IsTold (files : List FileEntry) (reading : Option Reading) (name bytes : List ℕ) : Type 0 where
@@ -86,10 +85,3 @@ content-end None reading new name bytes buffer after h r = tt
 content-end (Some files) reading new name bytes buffer after h r =
     let taken = TakesFront-told files reading new name bytes buffer after 0 h r in
     h.there ∙ ap (λ (rest : List ℕ). Some (bytes ++ rest)) (taken.0.end refl) ∙ ap Some (append-nil bytes)
-
--- more bytes than a file may have are those of a long file
-pub HasLongText-front : (files : Option (List FileEntry)) (reading : Option Reading) (name bytes : List ℕ)
-    → IsFront files reading name bytes → most_bytes < length bytes → IfSome files (λ files. HasLongText files name)
-HasLongText-front None reading name bytes h long = tt
-HasLongText-front (Some files) reading name bytes h long =
-    record { text = bytes ++ h.rest; there = h.there; long = omega (arith, length-append bytes h.rest) }

@@ -1,4 +1,4 @@
--- What a step that reads files answers: what the files say, a refusal with its cause, a fault with its cause, or want of memory.
+-- What the reading of all five files answers: what they say, a refusal with its cause, a fault with its cause, or want of memory.
 use Rattle.std.specs.Prelude.{◌≡◌, ℕ, List, Option, Result, Ok, Err, IfSome, Vec}
 use Rattle.std.specs.declared.alloc.Global.{Global}
 use Rattle.book_outer.specs.Cause.{Rose}
@@ -12,14 +12,6 @@ use Rattle.proud_top.specs.NarrowSystem.{NarrowDesign, system_of}
 use Rattle.proud_top.specs.Report.{report_of}
 use Rattle.proud_top.specs.Design.{HasText, HasOtherText, IsNarrow, IsUnbuilt, IsReached}
 
--- One file is read as a record, seen by view: it is there in the told files; or it is there and reads as no record; or a read
--- fault rose. The count of read faults stands still at any other answer than a fault.
-abbrev pub ReadsFile : {A R : Type 0} → Option (List FileEntry) → FileKind → List ℕ → (List ℕ → R → Type 0) → (A → R) → ℕ → ℕ → Result A Stop → Type 0
-ReadsFile files kind name IsRead view before now (Ok answer) = IfSome files (λ told. HasText told name IsRead (view answer)) × (now ≡ before)
-ReadsFile files kind name IsRead view before now (Err (Unbuilt k)) = (k ≡ kind) × IfSome files (λ told. HasOtherText told name IsRead) × (now ≡ before)
-ReadsFile files kind name IsRead view before now (Err (Unread k)) = (k ≡ kind) × Rose before now
-ReadsFile files kind name IsRead view before now (Err Memory) = now ≡ before
-
 -- the text is the report of the design that the files spell
 pub record IsReportOf (files : List FileEntry) (word text : List ℕ) : Type 0 where
   pub design : NarrowDesign
@@ -30,7 +22,8 @@ pub record IsReportOf (files : List FileEntry) (word text : List ℕ) : Type 0 w
   pub greatest : IsGreatest (system_of design) hi
   pub told : text ≡ report_of design lo hi
 
--- the same of all five files and the report
+-- The report of what the files spell; or that the file of the kind isn't in the narrow form or couldn't be read, each before it
+-- being so. The count of read faults stands still at any other answer than a fault.
 abbrev pub Places : Option (List FileEntry) → List ℕ → ℕ → ℕ → Result (List ℕ) Stop → Type 0
 Places files word before now (Ok text) = IfSome files (λ told. IsReportOf told word text) × (now ≡ before)
 Places files word before now (Err (Unbuilt kind)) = IfSome files (λ told. IsUnbuilt told word kind) × (now ≡ before)

@@ -124,7 +124,7 @@ struct Case {
 /// The words of a run on the design in the folder itself.
 const A: &[&str] = &["proud", "a.aux"];
 
-fn case(texts: Texts, status: Status, report: &'static [u8]) -> Case {
+fn case_of(texts: Texts, status: Status, report: &'static [u8]) -> Case {
     Case {
         words: A,
         texts,
@@ -146,7 +146,7 @@ fn words_of(alloc: Global, words: &[&str]) -> Result<Words, Memory> {
 /// Asserts the status, what the report got, and that the files are as they were.
 fn assert_case(rt: &impl Abort, alloc: Global, case: Case) -> Result<(), Memory> {
     let mut folder = MemFolder::new(files_of(alloc, case.texts)?, calls_of(alloc, case.call)?);
-    let mut report = MemSink::new(calls_of(alloc, case.put)?);
+    let mut report = MemSink::new(alloc, calls_of(alloc, case.put)?);
     let words = words_of(alloc, case.words)?;
     let status = proud(alloc, &words, &mut folder, &mut report, &OpenGate);
     assert_eq!(rt; status, case.status);
@@ -162,13 +162,13 @@ fn assert_case(rt: &impl Abort, alloc: Global, case: Case) -> Result<(), Memory>
 #[test]
 fn designs_are_placed(rt: HostRuntime) -> Result<(), Fail> {
     let cases = [
-        case(one_cell(), Status::Done, b"a 5000000 5000000\n"),
-        case(
+        case_of(one_cell(), Status::Done, b"a 5000000 5000000\n"),
+        case_of(
             two_cells(),
             Status::Done,
             b"a 3333333 3333334\nb 6666666 6666667\n",
         ),
-        case(terminals(), Status::Done, b""),
+        case_of(terminals(), Status::Done, b""),
     ];
     for case in cases {
         assert_case(&rt, rt.alloc(), case)?;
@@ -179,31 +179,79 @@ fn designs_are_placed(rt: HostRuntime) -> Result<(), Fail> {
 
 #[test]
 fn others_are_told(rt: HostRuntime) -> Result<(), Fail> {
-    let usage = case(one_cell(), Status::Usage, b"usage: proud DESIGN\n");
-    let refused = case(
+    let usage = case_of(one_cell(), Status::Usage, b"usage: proud DESIGN\n");
+    let refused = case_of(
         with_offset(),
         Status::Refused(Refusal::NotBuilt(FileKind::Nets)),
         b"proud: not built: nets\n",
     );
-    let unread = case(
+    let unread = case_of(
         one_cell(),
         Status::ReadFault(FileKind::Nodes),
         b"proud: cannot read nodes\n",
     );
-    let written = case(one_cell(), Status::WriteFault, b"");
+    let written = case_of(one_cell(), Status::WriteFault, b"");
     let cases = [
-        (1, Case { words: &["proud"], ..usage }),
-        (1, Case { words: &["proud", "a.aux", "a.aux"], ..usage }),
-        (1, Case { words: &[], ..usage }),
+        (
+            1,
+            Case {
+                words: &["proud"],
+                ..usage
+            },
+        ),
+        (
+            1,
+            Case {
+                words: &["proud", "a.aux", "a.aux"],
+                ..usage
+            },
+        ),
+        (
+            1,
+            Case {
+                words: &[],
+                ..usage
+            },
+        ),
         // Nothing is read where the words have another form.
-        (1, Case { words: &["proud"], call: 1, ..usage }),
-        (1, Case { words: &["proud"], put: 1, report: b"", ..usage }),
+        (
+            1,
+            Case {
+                words: &["proud"],
+                call: 1,
+                ..usage
+            },
+        ),
+        (
+            1,
+            Case {
+                words: &["proud"],
+                put: 1,
+                report: b"",
+                ..usage
+            },
+        ),
         (2, refused),
-        (2, Case { put: 1, report: b"", ..refused }),
+        (
+            2,
+            Case {
+                put: 1,
+                report: b"",
+                ..refused
+            },
+        ),
         // The folder's calls: begin, read and read of a.aux; begin and read of a.nodes.
         (3, Case { call: 4, ..unread }),
         (3, Case { call: 5, ..unread }),
-        (3, Case { call: 5, put: 1, report: b"", ..unread }),
+        (
+            3,
+            Case {
+                call: 5,
+                put: 1,
+                report: b"",
+                ..unread
+            },
+        ),
         (4, Case { put: 1, ..written }),
     ];
     for (code, case) in cases {
@@ -217,18 +265,18 @@ fn others_are_told(rt: HostRuntime) -> Result<(), Fail> {
 fn files_stand_beside_the_aux_file(rt: HostRuntime) -> Result<(), Fail> {
     let alloc = rt.alloc();
     let mut folder = MemFolder::new(files_below(alloc, one_cell())?, Calls::new(alloc));
-    let mut report = MemSink::new(Calls::new(alloc));
+    let mut report = MemSink::new(alloc, Calls::new(alloc));
     let words = words_of(alloc, &["proud", "d/a.aux"])?;
     let status = proud(alloc, &words, &mut folder, &mut report, &OpenGate);
     assert_eq!(rt; status, Status::Done);
-    assert!(rt; report.written() == b"a 5000000 5000000\n");
+    assert!(rt; report.written() == b"a 5000000 5000000\n".as_slice());
 
     let mut folder = MemFolder::new(files_without_places(alloc, one_cell())?, Calls::new(alloc));
-    let mut report = MemSink::new(Calls::new(alloc));
+    let mut report = MemSink::new(alloc, Calls::new(alloc));
     let words = words_of(alloc, A)?;
     let status = proud(alloc, &words, &mut folder, &mut report, &OpenGate);
     assert_eq!(rt; status, Status::ReadFault(FileKind::Pl));
-    assert!(rt; report.written() == b"proud: cannot read pl\n");
+    assert!(rt; report.written() == b"proud: cannot read pl\n".as_slice());
     assert_eq!(rt; Status::Memory.code(), 5);
     Ok(())
 }

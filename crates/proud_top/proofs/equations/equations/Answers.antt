@@ -15,11 +15,11 @@ pub loop-i-preserved : goal.loop-i-preserved
 loop-i-preserved c =
     let point = narrow_point (design_of c.args.nodes.now c.args.nets.now c.args.places.now c.args.row) in
     elim c.if-not-nodes-i.branch [
-      then-not-nodes-i+in_ok-point+in_ok-push w ↦
-        w.points-is ∙ w.in_ok-push.ensures.pushed ∙ ap (λ xs. xs ++ w.in_ok-point.field-0 ∷ []) c.loop-i.invariant
-        ∙ ap (λ p. map point (movable_before (node_entries c.args.nodes.now) c.loop-i.i) ++ p ∷ []) w.in_ok-point.ensures
-        ∙ sym (movable_point point c.args.nodes.now c.loop-i.i _ c.loop-i-test.true w.if-not-nodes-i.true)
-    | else-not-nodes-i w ↦ w.points-is ∙ c.loop-i.invariant ∙ sym (terminal_point point c.args.nodes.now c.loop-i.i _ c.loop-i-test.true w.if-not-nodes-i.false)
+      | then-not-nodes-i+in_ok-point+in_ok-push w ↦
+          w.points-is ∙ w.in_ok-push.ensures.pushed ∙ ap (λ xs. xs ++ w.in_ok-point.field-0 ∷ []) c.loop-i.invariant
+          ∙ ap (λ p. map point (movable_before (node_entries c.args.nodes.now) c.loop-i.i) ++ p ∷ []) w.in_ok-point.ensures
+          ∙ sym (movable_point point c.args.nodes.now c.loop-i.i _ c.loop-i-test.true w.if-not-nodes-i.true)
+      | else-not-nodes-i w ↦ w.points-is ∙ c.loop-i.invariant ∙ sym (terminal_point point c.args.nodes.now c.loop-i.i _ c.loop-i-test.true w.if-not-nodes-i.false)
     ]
 
 pub new-requires : goal.new-requires

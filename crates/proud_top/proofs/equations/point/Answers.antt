@@ -22,15 +22,15 @@ pub loop-net-preserved : goal.loop-net-preserved
 loop-net-preserved c =
     let design = design_of c.args.nodes.now c.args.nets.now c.args.places.now c.args.row in
     elim c.match-other_node.branch [
-      in-Movable+in_ok-push-in-Movable w ↦
-        let more = joined_more design c.args.nets.now c.args.i c.loop-net.net-index _ _ _ _ (Movable w.in-Movable.other) c.loop-net-test.true w.in-Movable.ensures c.loop-net.invariant in
-        rw (w.near-is, w.pads-is, w.pad_sum-is, w.in_ok-push-in-Movable.ensures.pushed) more
-    | in-Terminal w ↦
-        let more = joined_more design c.args.nets.now c.args.i c.loop-net.net-index _ _ _ _ (Terminal w.in-Terminal.at) c.loop-net-test.true w.in-Terminal.ensures c.loop-net.invariant in
-        rw (w.near-is, w.pads-is, w.pad_sum-is, w.max-pad_sum.ensures, w.min.ensures, c.coordinate-lo.ensures, c.coordinate-hi.ensures) more
-    | in-Nothing w ↦
-        let more = joined_more design c.args.nets.now c.args.i c.loop-net.net-index _ _ _ _ Nothing c.loop-net-test.true w.in-Nothing.ensures c.loop-net.invariant in
-        rw (w.near-is, w.pads-is, w.pad_sum-is) more
+      | in-Movable+in_ok-push-in-Movable w ↦
+          let more = joined_more design c.args.nets.now c.args.i c.loop-net.net-index _ _ _ _ (Movable w.in-Movable.other) c.loop-net-test.true w.in-Movable.ensures c.loop-net.invariant in
+          rw (w.near-is, w.pads-is, w.pad_sum-is, w.in_ok-push-in-Movable.ensures.pushed) more
+      | in-Terminal w ↦
+          let more = joined_more design c.args.nets.now c.args.i c.loop-net.net-index _ _ _ _ (Terminal w.in-Terminal.at) c.loop-net-test.true w.in-Terminal.ensures c.loop-net.invariant in
+          rw (w.near-is, w.pads-is, w.pad_sum-is, w.max-pad_sum.ensures, w.min.ensures, c.coordinate-lo.ensures, c.coordinate-hi.ensures) more
+      | in-Nothing w ↦
+          let more = joined_more design c.args.nets.now c.args.i c.loop-net.net-index _ _ _ _ Nothing c.loop-net-test.true w.in-Nothing.ensures c.loop-net.invariant in
+          rw (w.near-is, w.pads-is, w.pad_sum-is) more
     ]
 
 pub overflow_mul-result : goal.overflow_mul-result

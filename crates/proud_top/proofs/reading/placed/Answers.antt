@@ -87,7 +87,7 @@ solved-requires g c =
     let of_pl = c.in_ok-places.ensures.answer.0 in
     let of_scl = c.in_ok-row.ensures.answer.0 in
     rw (c.deref-5.ensures.value, c.deref-6.ensures.value, c.deref-7.ensures.value) (well_formed design of_nodes.text of_nets.text of_pl.text of_scl.text
-        of_nodes.is_read (rw (← c.deref-3.ensures.value) of_nets.is_read) (rw (← c.deref-4.ensures.value) of_pl.is_read) of_scl.is_read)
+    of_nodes.is_read (rw (← c.deref-3.ensures.value) of_nets.is_read) (rw (← c.deref-4.ensures.value) of_pl.is_read) of_scl.is_read)
 
 pub returns-clause-places : goal.returns-clause-places
 returns-clause-places g c =
