@@ -1,6 +1,6 @@
 //! A folder and a sink that hold their bytes, and whose only faults are names that aren't there.
 
-ghost use Rattle.std.specs.Prelude.{◌≡◌, ◌<◌, length, [], Some, None, Ok, Err, IsOk, IsOkUnless, IsSome, is_some, if◌then◌else◌, option_copied};
+ghost use Rattle.std.specs.Prelude.{◌≡◌, ◌<◌, length, [], Some, None, Ok, Err, IsOk, IsOkUnless, OnErr, IsSome, is_some, if◌then◌else◌, option_copied};
 ghost use Rattle.book_outer.specs.Cause.{one_more, HasCause};
 ghost use Rattle.book_outer.specs.Files.{AreNamesDistinct, content};
 ghost use Rattle.book_outer.specs.Folder.{Begins, Reads, Creates, Puts, missed_after};
@@ -102,6 +102,7 @@ impl Folder for CalmFolder {
         requires { IsSome self.old.writing }
         ensures answer { IsOkUnless result Trouble.Memory }
         ensures puts { Puts (Some self.old.files) self.old.writing bytes.now result (Some self.new.files) self.new.writing }
+        ensures kept { OnErr result (self.new.files ≡ self.old.files) }
         ensures begun { self.new.begun ≡ self.old.begun }
         ensures missed { self.new.missed ≡ self.old.missed }
     {
@@ -149,6 +150,7 @@ impl Sink for CalmSink {
     fn put(&mut self, bytes: &[u8]) -> Result<(), Trouble>
         ensures answer { IsOkUnless result Trouble.Memory }
         ensures gets { Gets (Some self.old) (Some self.new) bytes.now result }
+        ensures kept { OnErr result (self.new ≡ self.old) }
     {
         append(&mut self.written, bytes, false)
     }

@@ -2,8 +2,9 @@
 //!
 //! Everything above is written over the traits `Folder`, `Sink` and `Gate`, so that its contracts can say what is read and
 //! written. The meanings of a folder are the files that it tells, the file being read and the one being written, and four
-//! counts that never fall. `MemFolder` and `MemSink` are for tests; `HostFolder` and `StdSink` are the trusted edge over
-//! the real folder and standard output, and tell nothing of content.
+//! counts that never fall. `MemFolder` and `MemSink` hold their bytes, and fail at the calls that they are told. `CalmFolder`
+//! and `CalmSink` hold theirs too, and fail only at an absent name. `HostFolder` and `StdSink` are the trusted edge over the
+//! real folder and standard output, and tell nothing of content.
 //!
 //! The contract: an answer Failed comes only where a count of faults rose in that call.
 #![tactic(auto)]

@@ -7,12 +7,13 @@ use std::marker::Model;
 
 /// A file of a folder in memory.
 #[derive(Drop)]
-pub(crate) struct File {
-    pub(crate) name: String,
-    pub(crate) bytes: Vec<u8>,
+struct File {
+    name: String,
+    bytes: Vec<u8>,
 }
 
 impl File {
+    // A file with copies of these.
     fn copied(alloc: Global, name: &str, bytes: &[u8]) -> Result<File, Memory>
         ensures name { IfOk result (λ file. string_bytes file.name ≡ name.now) }
         ensures bytes { IfOk result (λ file. file.bytes.items ≡ bytes.now) }
@@ -27,8 +28,8 @@ impl File {
 /// Files for a folder in memory, each with its name.
 #[derive(Drop)]
 pub struct Files {
-    pub(crate) alloc: Global,
-    pub(crate) items: Vec<File>,
+    alloc: Global,
+    items: Vec<File>,
 }
 
 impl Model for Files {

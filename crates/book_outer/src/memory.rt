@@ -1,6 +1,6 @@
 //! A folder and a sink that hold their bytes.
 
-ghost use Rattle.std.specs.Prelude.{◌≡◌, ◌<◌, length, [], Some, None, Ok, Err, IsOk, IsOkUnless, IsSome, is_some, not, ◌&&◌, if◌then◌else◌, MatchBool, option_copied};
+ghost use Rattle.std.specs.Prelude.{◌≡◌, ◌<◌, length, [], Some, None, Ok, Err, IsOk, IsOkUnless, OnErr, IsSome, is_some, not, ◌&&◌, if◌then◌else◌, MatchBool, option_copied};
 ghost use Rattle.book_outer.specs.Cause.{one_more, HasCause};
 ghost use Rattle.book_outer.specs.Files.{AreNamesDistinct, content};
 ghost use Rattle.book_outer.specs.Folder.{Begins, Reads, Creates, Puts, missed_after};
@@ -149,6 +149,7 @@ impl Folder for MemFolder {
         ensures calls { self.new.calls ≡ one_more self.old.calls }
         ensures failing { self.new.failing ≡ self.old.failing }
         ensures puts { Puts (Some self.old.files) self.old.writing bytes.now result (Some self.new.files) self.new.writing }
+        ensures kept { OnErr result (self.new.files ≡ self.old.files) }
         ensures begun { self.new.begun ≡ self.old.begun }
         ensures missed { self.new.missed ≡ self.old.missed }
         ensures cause { HasCause self.old.write_faults self.new.write_faults result }
@@ -207,6 +208,7 @@ impl Sink for MemSink {
         ensures calls { self.new.calls ≡ one_more self.old.calls }
         ensures failing { self.new.failing ≡ self.old.failing }
         ensures gets { Gets (Some self.old.written) (Some self.new.written) bytes.now result }
+        ensures kept { OnErr result (self.new.written ≡ self.old.written) }
         ensures cause { HasCause self.old.faults self.new.faults result }
     {
         let fails = next_fails(&mut self.calls, &self.failing);

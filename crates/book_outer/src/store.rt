@@ -1,6 +1,6 @@
 //! What the folders and the sinks in memory share: files with one that is read and one that is written, and bytes.
 
-ghost use Rattle.std.specs.Prelude.{◌≡◌, ℕ, ◌<◌, ◌↔◌, length, Some, None, Ok, Err, IsTrue, IsSome, IsErrOf, is_some, not, ◌&&◌, option_copied, if◌then◌else◌, IsOk, IsOkUnless, MatchBool, drop, max, ◌+◌, ◌≤◌};
+ghost use Rattle.std.specs.Prelude.{◌≡◌, ℕ, ◌<◌, ◌↔◌, length, Some, None, Ok, Err, IsTrue, IsSome, IsErrOf, is_some, not, ◌&&◌, option_copied, if◌then◌else◌, IsOk, IsOkUnless, OnErr, MatchBool, drop, max, ◌+◌, ◌≤◌};
 ghost use Rattle.book_outer.specs.Cause.{one_more};
 ghost use Rattle.book_outer.specs.Files.{content};
 ghost use Rattle.book_outer.specs.Sink.{Gets};
@@ -98,7 +98,7 @@ impl Store {
         ensures reads { Reads (Some self.old.files) self.old.reading buf.old buf.new result self.new.reading }
         ensures files { self.new.files ≡ self.old.files }
         ensures writing { self.new.writing ≡ self.old.writing }
-        ensures begun_count { self.new.begun ≡ self.old.begun }
+        ensures begun { self.new.begun ≡ self.old.begun }
         ensures missed { self.new.missed ≡ self.old.missed }
     {
         if fails {
@@ -135,6 +135,7 @@ impl Store {
         requires { IsSome self.old.writing }
         ensures answer { MatchBool fails (result ≡ Err Trouble.Failed) (IsOkUnless result Trouble.Memory) }
         ensures puts { Puts (Some self.old.files) self.old.writing bytes.now result (Some self.new.files) self.new.writing }
+        ensures kept { OnErr result (self.new.files ≡ self.old.files) }
         ensures begun { self.new.begun ≡ self.old.begun }
         ensures missed { self.new.missed ≡ self.old.missed }
     {
@@ -151,6 +152,7 @@ impl Store {
 pub(crate) fn append(written: &mut Vec<u8>, bytes: &[u8], fails: bool) -> Result<(), Trouble>
     ensures answer { MatchBool fails (result ≡ Err Trouble.Failed) (IsOkUnless result Trouble.Memory) }
     ensures gets { Gets (Some written.old.items) (Some written.new.items) bytes.now result }
+    ensures kept { OnErr result (written.new.items ≡ written.old.items) }
 {
     if fails {
         return Err(Trouble::Failed);
