@@ -87,7 +87,7 @@ fn certifies(rt: HostRuntime) -> Result<(), Fail> {
         (&PAIR, &[1, 1], &[3, 3], broken(0, Side2::Lower)),
         (&PAIR, &[0, 0], &[3, 3], broken(0, Side2::Upper)),
         (&TRIPLE, &[2, 0, 1], &[2, 2, 3], encloses(2, 1)),
-        // the one residual is greater, and the other one
+        // the residual of the lower vector is the greater one, and then that of the upper one
         (&[(0, 3, &[], 3, 5)], &[1], &[2], encloses(1, 2)),
         (&[(0, 3, &[], 3, 4)], &[1], &[2], encloses(1, 2)),
         // without a chain to an anchor the lower vector may lie above the upper one
