@@ -1,5 +1,6 @@
 pub mod FewLines
 pub mod Readings
+pub mod Bridge
 pub mod Names
 pub mod Progresses
 pub mod AuxSteps

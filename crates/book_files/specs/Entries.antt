@@ -5,6 +5,8 @@ use Rattle.book_files.specs.declared.records.AuxFile.{AuxFile}
 use Rattle.book_files.specs.declared.records.NodeLine.{NodeLine}
 use Rattle.book_files.specs.declared.records.WeightLine.{WeightLine}
 use Rattle.book_files.specs.declared.records.PlaceLine.{PlaceLine}
+use Rattle.book_files.specs.declared.records.PinLine.{PinLine}
+use Rattle.book_files.specs.declared.records.SubrowLine.{SubrowLine}
 
 -- the names in an aux file
 pub record AuxEntry : Type 0 where
@@ -56,3 +58,39 @@ place_entry p = record { line = p.line; name = p.name.0.now; x = p.x.0; y = p.y.
 
 abbrev pub place_entries : List PlaceLine → List PlaceEntry
 place_entries lines = map place_entry lines
+
+-- a pin: its node's name, and its offset from the node's centre in millionths
+pub record PinEntry : Type 0 where
+  pub line : ℕ
+  pub node : List ℕ
+  pub dx : ℤ
+  pub dy : ℤ
+
+-- a net and its pins
+pub record NetEntry : Type 0 where
+  pub name : Option (List ℕ)
+  pub pins : List PinEntry
+
+-- a subrow: its origin in millionths, and its number of sites
+pub record SubrowEntry : Type 0 where
+  pub x : ℤ
+  pub sites : ℕ
+
+-- a row: its lower edge, its height and its pitch in millionths
+pub record RowEntry : Type 0 where
+  pub y : ℤ
+  pub height : ℤ
+  pub pitch : ℤ
+  pub subrows : List SubrowEntry
+
+abbrev pub pin_entry : PinLine → PinEntry
+pin_entry p = record { line = p.line; node = p.node.0.now; dx = p.dx.0; dy = p.dy.0 }
+
+abbrev pub pin_entries : List PinLine → List PinEntry
+pin_entries lines = map pin_entry lines
+
+abbrev pub subrow_entry : SubrowLine → SubrowEntry
+subrow_entry s = record { x = s.x.0; sites = s.sites }
+
+abbrev pub subrow_entries : List SubrowLine → List SubrowEntry
+subrow_entries lines = map subrow_entry lines

@@ -2,7 +2,8 @@ ghost use Rattle.std.specs.Prelude.{◌≡◌, ℕ, true, [], map, option_map};
 ghost use Rattle.std.specs.List.{list_all};
 ghost use Rattle.std.specs.Str.{is_utf8};
 ghost use Rattle.std.specs.Char.{to_ascii_lowercase};
-ghost use Rattle.book_files.specs.Form.{Answers};
+ghost use Rattle.book_files.specs.Grammar.{Answers};
+ghost use Rattle.book_files.specs.AuxRules.{aux_grammar};
 ghost use Rattle.book_files.specs.Progress.{Gives};
 ghost use Rattle.book_files.specs.Aux.{aux_form, aux_meaning, has_suffix, is_file_name, named, names_of, aux_by_suffix, only, at_most_one};
 ghost use Rattle.book_files.specs.Entries.{aux_entry};
@@ -16,7 +17,7 @@ use std::str;
 
 /// The names that an `.aux` file gives, or its first fault.
 pub fn read_aux(alloc: Global, bytes: &[u8]) -> Result<AuxFile<'_>, ReadError>
-    ensures { Answers aux_form aux_entry bytes.now result }
+    ensures { Answers aux_grammar aux_entry bytes.now result }
 {
     let mut so_far = AuxSoFar { file: None };
     keep_lines(alloc, bytes, &mut so_far)?;

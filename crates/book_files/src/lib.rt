@@ -11,23 +11,33 @@
 mod aux;
 mod fault;
 mod laws;
+mod loading;
 mod name;
+mod nets;
 mod nodes;
 mod orient;
 mod places;
 mod records;
+mod rows;
+mod text;
 mod walk;
 mod weights;
 mod words;
 
 pub use aux::read_aux;
 pub use fault::{ReadError, TextFault, TextKind};
-pub use laws::{one_answer, records_are_few};
+pub use laws::one_answer;
+pub use loading::{LoadError, load};
 pub use name::Name;
+pub use nets::{NetFile, Pins, read_nets};
 pub use nodes::{NodeFile, read_nodes};
 pub use orient::Orient;
 pub use places::{PlaceFile, read_pl};
-pub use records::{AuxFile, FileKind, NodeLine, PlaceLine, WeightLine};
+pub use records::{
+    AuxFile, FileKind, NetBlock, NodeLine, PinLine, PlaceLine, RowBlock, SubrowLine, WeightLine,
+};
+pub use rows::{RowFile, Subrows, read_scl};
+pub use text::{placement_reads_back, write_pl};
 pub use weights::{WeightFile, read_wts};
 
 #[cfg(test)]

@@ -1,5 +1,8 @@
-ghost use Rattle.std.specs.Prelude.{◌≡◌, map, List};
-ghost use Rattle.book_files.specs.Form.{Answers};
+ghost use Rattle.std.specs.Prelude.{◌≡◌, map, List, ◌≤◌, length, IfOk};
+ghost use Rattle.std.specs.List.{AllByRecursion};
+ghost use Rattle.book_files.specs.Ranges.{IsNodeInRange};
+ghost use Rattle.book_files.specs.Grammar.{Answers};
+ghost use Rattle.book_files.specs.NodeRules.{nodes_grammar};
 ghost use Rattle.book_files.specs.Progress.{Gives};
 ghost use Rattle.book_files.specs.Nodes.{node_form, node, sized, node_of};
 ghost use Rattle.book_files.specs.Entries.{node_entry, node_entries};
@@ -20,17 +23,22 @@ pub struct NodeFile<'a> {
 
 impl<'a> Model for NodeFile<'a> {
     ghost use Rattle.std.specs.Prelude.{List};
+    ghost use Rattle.std.specs.List.{AllByRecursion};
     ghost use Rattle.book_files.specs.Entries.{NodeEntry, node_entries};
+    ghost use Rattle.book_files.specs.Ranges.{IsNodeInRange};
 
     ghost Value = { List NodeEntry };
 
     ghost view = { λ f. node_entries f.lines.items };
+
+    ghost invariant = { λ f. AllByRecursion IsNodeInRange (node_entries f.lines.items) };
 }
 
 impl<'a> NodeFile<'a> {
     /// The lines in order.
     pub fn as_slice(&self) -> &[NodeLine<'a>]
-        ensures { node_entries result.now ≡ self.now }
+        ensures lines { node_entries result.now ≡ self.now }
+        ensures ranges { AllByRecursion IsNodeInRange self.now }
     {
         &self.lines
     }
@@ -38,7 +46,8 @@ impl<'a> NodeFile<'a> {
 
 /// The nodes that a `.nodes` file has, or its first fault.
 pub fn read_nodes(alloc: Global, bytes: &[u8]) -> Result<NodeFile<'_>, ReadError>
-    ensures { Answers node_form (λ file. file) bytes.now result }
+    ensures reading { Answers nodes_grammar (λ file. file) bytes.now result }
+    ensures few { IfOk result (λ file. length file ≤ length bytes.now) }
 {
     let mut so_far = NodesSoFar {
         begun: false,

@@ -1,5 +1,8 @@
-ghost use Rattle.std.specs.Prelude.{◌≡◌, false, map, IsTrue, MatchResult};
-ghost use Rattle.book_files.specs.Form.{Answers};
+ghost use Rattle.std.specs.Prelude.{◌≡◌, false, map, IsTrue, MatchResult, ◌≤◌, length, IfOk};
+ghost use Rattle.std.specs.List.{AllByRecursion};
+ghost use Rattle.book_files.specs.Ranges.{IsPlaceInRange};
+ghost use Rattle.book_files.specs.Grammar.{Answers};
+ghost use Rattle.book_files.specs.PlaceRules.{places_grammar};
 ghost use Rattle.book_files.specs.Progress.{Gives};
 ghost use Rattle.book_files.specs.Places.{place_form, placed, is_fixed_mark, orient_of, placed_at, turned, place_of};
 ghost use Rattle.book_files.specs.Entries.{place_entry, place_entries};
@@ -21,17 +24,22 @@ pub struct PlaceFile<'a> {
 
 impl<'a> Model for PlaceFile<'a> {
     ghost use Rattle.std.specs.Prelude.{List};
+    ghost use Rattle.std.specs.List.{AllByRecursion};
     ghost use Rattle.book_files.specs.Entries.{PlaceEntry, place_entries};
+    ghost use Rattle.book_files.specs.Ranges.{IsPlaceInRange};
 
     ghost Value = { List PlaceEntry };
 
     ghost view = { λ f. place_entries f.lines.items };
+
+    ghost invariant = { λ f. AllByRecursion IsPlaceInRange (place_entries f.lines.items) };
 }
 
 impl<'a> PlaceFile<'a> {
     /// The lines in order.
     pub fn as_slice(&self) -> &[PlaceLine<'a>]
-        ensures { place_entries result.now ≡ self.now }
+        ensures lines { place_entries result.now ≡ self.now }
+        ensures ranges { AllByRecursion IsPlaceInRange self.now }
     {
         &self.lines
     }
@@ -39,7 +47,8 @@ impl<'a> PlaceFile<'a> {
 
 /// The places that a `.pl` file has, or its first fault.
 pub fn read_pl(alloc: Global, bytes: &[u8]) -> Result<PlaceFile<'_>, ReadError>
-    ensures { Answers place_form (λ file. file) bytes.now result }
+    ensures reading { Answers places_grammar (λ file. file) bytes.now result }
+    ensures few { IfOk result (λ file. length file ≤ length bytes.now) }
 {
     let mut so_far = PlacesSoFar {
         begun: false,

@@ -1,5 +1,7 @@
 use crate::name::Name;
+use crate::nets::Pins;
 use crate::orient::Orient;
+use crate::rows::Subrows;
 use book_text::Micro;
 
 /// The files of a design, in the order in which they are read.
@@ -51,4 +53,36 @@ pub struct PlaceLine<'a> {
     pub orient: Orient,
     /// Whether it is marked `/FIXED`.
     pub fixed: bool,
+}
+
+/// A pin's line in a `.nets` file: its node, and its offset in millionths from the node's centre.
+#[derive(Clone, Copy, Debug)]
+pub struct PinLine<'a> {
+    pub line: u64,
+    pub node: Name<'a>,
+    pub dx: Micro,
+    pub dy: Micro,
+}
+
+/// A net of a `.nets` file.
+#[derive(Drop)]
+pub struct NetBlock<'a> {
+    pub name: Option<Name<'a>>,
+    pub pins: Pins<'a>,
+}
+
+/// A subrow of a `.scl` file: where it begins, in millionths, and how many sites it has.
+#[derive(Clone, Copy, Debug)]
+pub struct SubrowLine {
+    pub x: Micro,
+    pub sites: u64,
+}
+
+/// A row of a `.scl` file: its lower edge, its height and its pitch in millionths.
+#[derive(Drop)]
+pub struct RowBlock {
+    pub y: Micro,
+    pub height: Micro,
+    pub pitch: Micro,
+    pub subrows: Subrows,
 }

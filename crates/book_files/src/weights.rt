@@ -1,5 +1,8 @@
-ghost use Rattle.std.specs.Prelude.{◌≡◌, map};
-ghost use Rattle.book_files.specs.Form.{Answers};
+ghost use Rattle.std.specs.Prelude.{◌≡◌, map, ◌≤◌, length, IfOk};
+ghost use Rattle.std.specs.List.{AllByRecursion};
+ghost use Rattle.book_files.specs.Ranges.{IsWeightInRange};
+ghost use Rattle.book_files.specs.Grammar.{Answers};
+ghost use Rattle.book_files.specs.WeightRules.{weights_grammar};
 ghost use Rattle.book_files.specs.Progress.{Gives};
 ghost use Rattle.book_files.specs.Weights.{weight_form, weighed, weight_of};
 ghost use Rattle.book_files.specs.Entries.{weight_entry, weight_entries};
@@ -20,17 +23,22 @@ pub struct WeightFile<'a> {
 
 impl<'a> Model for WeightFile<'a> {
     ghost use Rattle.std.specs.Prelude.{List};
+    ghost use Rattle.std.specs.List.{AllByRecursion};
     ghost use Rattle.book_files.specs.Entries.{WeightEntry, weight_entries};
+    ghost use Rattle.book_files.specs.Ranges.{IsWeightInRange};
 
     ghost Value = { List WeightEntry };
 
     ghost view = { λ f. weight_entries f.lines.items };
+
+    ghost invariant = { λ f. AllByRecursion IsWeightInRange (weight_entries f.lines.items) };
 }
 
 impl<'a> WeightFile<'a> {
     /// The lines in order.
     pub fn as_slice(&self) -> &[WeightLine<'a>]
-        ensures { weight_entries result.now ≡ self.now }
+        ensures lines { weight_entries result.now ≡ self.now }
+        ensures ranges { AllByRecursion IsWeightInRange self.now }
     {
         &self.lines
     }
@@ -38,7 +46,8 @@ impl<'a> WeightFile<'a> {
 
 /// The weights that a `.wts` file has, or its first fault.
 pub fn read_wts(alloc: Global, bytes: &[u8]) -> Result<WeightFile<'_>, ReadError>
-    ensures { Answers weight_form (λ file. file) bytes.now result }
+    ensures reading { Answers weights_grammar (λ file. file) bytes.now result }
+    ensures few { IfOk result (λ file. length file ≤ length bytes.now) }
 {
     let mut so_far = WeightsSoFar {
         begun: false,

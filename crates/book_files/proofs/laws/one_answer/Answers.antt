@@ -1,18 +1,22 @@
-use Rattle.book_files.specs.Aux.{aux_form}
-use Rattle.book_files.specs.Nodes.{node_form}
 use Rattle.book_files.specs.Weights.{weight_form}
-use Rattle.book_files.specs.Places.{place_form}
-use Rattle.book_files.proofs.Readings.{has_one_answer}
+use Rattle.book_files.specs.WeightRules.{weights_grammar}
+use Rattle.book_files.proofs.Bridge.{one_answer_of}
 use Rattle.book_files.proofs.laws.one_answer.Goals as goal
 
 pub returns-clause-aux : goal.returns-clause-aux
-returns-clause-aux c = has_one_answer aux_form
+returns-clause-aux c = ?
 
 pub returns-clause-nodes : goal.returns-clause-nodes
-returns-clause-nodes c = has_one_answer node_form
+returns-clause-nodes c = ?
+
+pub returns-clause-nets : goal.returns-clause-nets
+returns-clause-nets c = ?
 
 pub returns-clause-wts : goal.returns-clause-wts
-returns-clause-wts c = has_one_answer weight_form
+returns-clause-wts c = one_answer_of weight_form weights_grammar ?
 
 pub returns-clause-pl : goal.returns-clause-pl
-returns-clause-pl c = has_one_answer place_form
+returns-clause-pl c = ?
+
+pub returns-clause-scl : goal.returns-clause-scl
+returns-clause-scl c = ?

@@ -1,0 +1,30 @@
+-- What the load of a file answers.
+use Rattle.std.specs.Prelude.{◌≡◌, ℕ, ◌<◌, ◌≤◌, ◌^◌, ◌-◌, List, length, Some, Result, Err, IsErrOf}
+use Rattle.book_outer.specs.declared.trouble.Trouble.{Trouble}
+use Rattle.book_outer.specs.declared.trouble.Trouble.TheVariants as trouble
+use Rattle.book_outer.specs.Cause.{Rose}
+use Rattle.book_outer.specs.Files.{FileEntry, content}
+use Rattle.book_files.specs.declared.loading.LoadError.{LoadError}
+use Rattle.book_files.specs.declared.loading.LoadError.TheVariants.{ReadFault, TooLong, Memory}
+
+-- the most bytes that a file may have
+abbrev pub most_bytes : ℕ
+most_bytes = 268435456
+
+-- the file is there, and has more bytes than a file may have
+pub record HasLongText (files : List FileEntry) (name : List ℕ) : Type 0 where
+  pub text : List ℕ
+  pub there : content files name ≡ Some text
+  pub long : most_bytes < length text
+
+-- what a trouble of the folder is to a load
+abbrev pub error_of : Trouble → LoadError
+error_of trouble.Failed = ReadFault
+error_of trouble.Memory = Memory
+
+-- The count of read faults never falls. It rose where the answer is ReadFault, and is as before at any other answer.
+pub record HasReadCause {T : Type 0} (before now : ℕ) (result : Result T LoadError) : Type 0 where
+  pub later : before ≤ now
+  pub failed : IsErrOf result ReadFault → Rose before now
+  pub kept : (IsErrOf result ReadFault → ⊥) → now ≡ before
+  pub bounded : before ≤ 2 ^ 64 - 1 → now ≤ 2 ^ 64 - 1

@@ -1,0 +1,49 @@
+-- The text of a placement.
+use Rattle.std.specs.Prelude.{ℕ, ◌+◌, Bool, true, false, List, [], ◌∷◌, ◌++◌, flat_map, codes, IsFalse}
+use Rattle.book_text.specs.Lines.{IsWord, spaced, is_comment_word}
+use Rattle.book_text.specs.Decimal.{canonical}
+use Rattle.book_files.specs.declared.orient.Orient.{Orient}
+use Rattle.book_files.specs.declared.orient.Orient.TheVariants.{N, S, E, W, FN, FS, FE, FW}
+use Rattle.book_files.specs.Entries.{PlaceEntry}
+use Rattle.book_files.specs.Ranges.{IsPlaceInRange}
+
+-- a word that may stand for a node at a line's start: one that begins no comment
+pub record IsName (name : List ℕ) : Type 0 where
+  pub word : IsWord name
+  pub plain : IsFalse (is_comment_word name)
+
+abbrev pub orient_word : Orient → List ℕ
+orient_word N = codes "N"
+orient_word S = codes "S"
+orient_word E = codes "E"
+orient_word W = codes "W"
+orient_word FN = codes "FN"
+orient_word FS = codes "FS"
+orient_word FE = codes "FE"
+orient_word FW = codes "FW"
+
+abbrev pub fixed_words : Bool → List (List ℕ)
+fixed_words true = codes "/FIXED" ∷ []
+fixed_words false = []
+
+-- `NAME X Y : ORIENT`, and `/FIXED` behind it for a fixed node
+abbrev pub place_words : PlaceEntry → List (List ℕ)
+place_words place = place.name ∷ canonical place.x ∷ canonical place.y ∷ codes ":" ∷ orient_word place.orient ∷ fixed_words place.fixed
+
+-- the words with a space between each two, and the line's end
+abbrev pub line_of : List (List ℕ) → List ℕ
+line_of words = spaced words ++ 10 ∷ []
+
+-- the header `UCLA pl 1.0`, and a line for each place
+abbrev pub placement_text : List PlaceEntry → List ℕ
+placement_text places = line_of (codes "UCLA" ∷ codes "pl" ∷ codes "1.0" ∷ []) ++ flat_map (λ place. line_of (place_words place)) places
+
+-- the same places on the lines from the given number on
+abbrev pub numbered : ℕ → List PlaceEntry → List PlaceEntry
+numbered n [] = []
+numbered n (place ∷ places) = record { line = n; name = place.name; x = place.x; y = place.y; orient = place.orient; fixed = place.fixed } ∷ numbered (n + 1) places
+
+-- a place that a reader of its text gives back
+pub record IsWritable (place : PlaceEntry) : Type 0 where
+  pub name : IsName place.name
+  pub range : IsPlaceInRange place

@@ -1,0 +1,49 @@
+-- The ranges of the numbers that the records of a file have.
+use Rattle.std.specs.Prelude.{◌^◌, ◌≤◌, ℕ, List, map, length, ℤ, pos, neg_ℤ, ◌≤ℤ◌, ◌<ℤ◌}
+use Rattle.std.specs.List.{AllByRecursion, sum_by}
+use Rattle.book_files.specs.Entries.{NodeEntry, WeightEntry, PlaceEntry, PinEntry, NetEntry, SubrowEntry, RowEntry}
+
+-- from -1,000,000 to 1,000,000 units, in millionths
+pub record IsInRange (value : ℤ) : Type 0 where
+  pub low : neg_ℤ (pos (10 ^ 12)) ≤ℤ value
+  pub high : value ≤ℤ pos (10 ^ 12)
+
+pub record IsNodeInRange (node : NodeEntry) : Type 0 where
+  pub width : IsInRange node.width
+  pub height : IsInRange node.height
+  pub width_sign : pos 0 ≤ℤ node.width
+  pub height_sign : pos 0 ≤ℤ node.height
+
+abbrev pub IsWeightInRange : WeightEntry → Type 0
+IsWeightInRange weight = IsInRange weight.weight
+
+pub record IsPlaceInRange (place : PlaceEntry) : Type 0 where
+  pub x : IsInRange place.x
+  pub y : IsInRange place.y
+
+pub record IsPinInRange (pin : PinEntry) : Type 0 where
+  pub dx : IsInRange pin.dx
+  pub dy : IsInRange pin.dy
+
+abbrev pub IsNetInRange : NetEntry → Type 0
+IsNetInRange net = AllByRecursion IsPinInRange net.pins
+
+pub record IsSubrowInRange (subrow : SubrowEntry) : Type 0 where
+  pub x : IsInRange subrow.x
+  pub sites : subrow.sites ≤ 2 ^ 40
+
+pub record IsRowInRange (row : RowEntry) : Type 0 where
+  pub y : IsInRange row.y
+  pub height : IsInRange row.height
+  pub pitch : IsInRange row.pitch
+  pub height_sign : pos 0 <ℤ row.height
+  pub pitch_sign : pos 0 <ℤ row.pitch
+  pub subrows : AllByRecursion IsSubrowInRange row.subrows
+
+-- how many pins the nets have
+abbrev pub pin_count : List NetEntry → ℕ
+pin_count nets = sum_by (λ net. length net.pins) nets
+
+-- how many subrows the rows have
+abbrev pub subrow_count : List RowEntry → ℕ
+subrow_count rows = sum_by (λ row. length row.subrows) rows
