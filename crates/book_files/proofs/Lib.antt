@@ -1,6 +1,7 @@
 pub mod FewLines
 pub mod Readings
 pub mod Bridge
+pub mod ShapeSteps
 pub mod Names
 pub mod Progresses
 pub mod AuxSteps

@@ -1,6 +1,5 @@
-use Rattle.book_files.specs.Weights.{weight_form}
-use Rattle.book_files.specs.WeightRules.{weights_grammar}
 use Rattle.book_files.proofs.Bridge.{one_answer_of}
+use Rattle.book_files.proofs.ShapeSteps.{count_judged}
 use Rattle.book_files.proofs.laws.one_answer.Goals as goal
 
 pub returns-clause-aux : goal.returns-clause-aux
@@ -13,7 +12,7 @@ pub returns-clause-nets : goal.returns-clause-nets
 returns-clause-nets c = ?
 
 pub returns-clause-wts : goal.returns-clause-wts
-returns-clause-wts c = one_answer_of weight_form weights_grammar ?
+returns-clause-wts c = ?
 
 pub returns-clause-pl : goal.returns-clause-pl
 returns-clause-pl c = ?
