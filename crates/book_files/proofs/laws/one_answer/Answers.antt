@@ -1,5 +1,10 @@
+use Rattle.book_files.specs.Weights.{weight_form}
+use Rattle.book_files.specs.WeightRules.{weights_grammar}
+use Rattle.book_files.specs.Places.{place_form}
+use Rattle.book_files.specs.PlaceRules.{places_grammar}
 use Rattle.book_files.proofs.Bridge.{one_answer_of}
-use Rattle.book_files.proofs.ShapeSteps.{count_judged}
+use Rattle.book_files.proofs.WeightDecides.{weights_decided}
+use Rattle.book_files.proofs.PlaceDecides.{places_decided}
 use Rattle.book_files.proofs.laws.one_answer.Goals as goal
 
 pub returns-clause-aux : goal.returns-clause-aux
@@ -12,10 +17,10 @@ pub returns-clause-nets : goal.returns-clause-nets
 returns-clause-nets c = ?
 
 pub returns-clause-wts : goal.returns-clause-wts
-returns-clause-wts c = ?
+returns-clause-wts c = one_answer_of weight_form weights_grammar weights_decided
 
 pub returns-clause-pl : goal.returns-clause-pl
-returns-clause-pl c = ?
+returns-clause-pl c = one_answer_of place_form places_grammar places_decided
 
 pub returns-clause-scl : goal.returns-clause-scl
 returns-clause-scl c = ?
