@@ -2,6 +2,8 @@ pub mod FewLines
 pub mod Readings
 pub mod Bridge
 pub mod ShapeSteps
+pub mod AuxDecides
+pub mod NodeDecides
 pub mod WeightDecides
 pub mod PlaceDecides
 pub mod Names

@@ -1,8 +1,8 @@
 -- From what the code decides of a line to what the rules name: numbers, count lines, the header, and lines of a shape.
-use Rattle.std.proofs.Common.{◌≡◌, ℕ, Bool, true, false, if◌then◌else◌, ◌≢◌, List, [], ◌∷◌, map, filter_map, IsTrue, IsFalse, ℤ, pos, int_lt, ◌≤ℤ◌, Option, Some, None, is_some, Result, Ok, Err, refl, sym, ap, subst, ◌∙◌, arith}
+use Rattle.std.proofs.Common.{◌≡◌, ℕ, Bool, true, false, if◌then◌else◌, ◌≢◌, ◌==◌, List, [], ◌∷◌, length, map, filter_map, IsTrue, IsFalse, ℤ, pos, int_lt, ◌≤ℤ◌, Option, Some, None, is_some, Result, Ok, Err, refl, sym, ap, subst, ◌∙◌, arith}
 use Rattle.std.specs.Char.{to_ascii_lowercase}
 use Rattle.std.specs.Str.{bytes_eq}
-use Rattle.std.proofs.lemmas.Bool.{and_parts, cond-false}
+use Rattle.std.proofs.lemmas.Bool.{and_parts, cond-true, cond-false, eqb-true, eqb-false, eq-eqb, ne_eqb}
 use Rattle.std.proofs.lemmas.Int.{ints}
 use Rattle.std.proofs.lemmas.Slice.Eq.{bytes_eq-Decides}
 use Rattle.book_text.specs.declared.number.NumberFault.{NumberFault}
@@ -220,3 +220,42 @@ module _ {I A : Type 0} (ending : List I → Result (List A) TextKind) (kind : I
   plain_end_back [] BadNumber named = absurd named
   plain_end_back [] (CountMismatch told found) named = absurd named
   plain_end_back (item ∷ items) fault named = absurd named
+
+-- What stands there, where its number was told. A file's own definition of it is this one, case by case.
+abbrev pub count_told : {A : Type 0} → Option ℕ → List A → Result (List A) TextKind
+count_told None found = Err BadLine
+count_told (Some n) found = if n == length found then Ok found else Err (CountMismatch n (length found))
+
+-- what is named of such a number
+abbrev pub ToldFault : {A : Type 0} → Option ℕ → List A → TextKind → Type 0
+ToldFault told found BadHeader = ⊥
+ToldFault told found BadLine = told ≡ None
+ToldFault told found BadNumber = ⊥
+ToldFault told found (CountMismatch n stand) = (told ≡ Some n) × (stand ≡ length found) × (n ≢ stand)
+
+pub told_file : {A : Type 0} (told : Option ℕ) (found records : List A) → count_told told found ≡ Ok records → (records ≡ found) × (told ≡ Some (length records))
+told_file None found records ends = cc
+told_file {A} (Some n) found records ends = equal (n == length found) refl ends where
+  equal : (b : Bool) → (n == length found) ≡ b → (if b then Ok found else Err (CountMismatch n (length found))) ≡ Ok records → (records ≡ found) × (Some n ≡ Some (length records))
+  equal true is e = let same : found ≡ records = cc in (sym same, ap Some (eqb-true n (length found) is ∙ ap length same))
+  equal false is e = cc
+
+pub told_file_back : {A : Type 0} (told : Option ℕ) (found records : List A) → records ≡ found → told ≡ Some (length records) → count_told told found ≡ Ok records
+told_file_back told found records same is = rw is (cond-true _ _ _ (eq-eqb (length records) (length found) (ap length same)) ∙ ap Ok (sym same))
+
+pub told_fault : {A : Type 0} (told : Option ℕ) (found : List A) (fault : TextKind) → count_told told found ≡ Err fault → ToldFault told found fault
+told_fault None found BadHeader ends = cc
+told_fault None found BadLine ends = refl
+told_fault None found BadNumber ends = cc
+told_fault None found (CountMismatch n stand) ends = cc
+told_fault {A} (Some n) found fault ends = equal (n == length found) refl ends where
+  equal : (b : Bool) → (n == length found) ≡ b → (if b then Ok found else Err (CountMismatch n (length found))) ≡ Err fault → ToldFault (Some n) found fault
+  equal true is e = cc
+  equal false is e = let same : CountMismatch n (length found) ≡ fault = cc in subst (λ k. ToldFault (Some n) found k) same (refl, refl, eqb-false n (length found) is)
+
+pub told_fault_back : {A : Type 0} (told : Option ℕ) (found : List A) (fault : TextKind) → ToldFault told found fault → count_told told found ≡ Err fault
+told_fault_back told found BadHeader named = absurd named
+told_fault_back told found BadLine named = rw named refl
+told_fault_back told found BadNumber named = absurd named
+told_fault_back told found (CountMismatch n stand) named = rw named.0 (cond-false _ _ _ (ne_eqb n (length found) (λ e. named.2 (e ∙ sym named.1)))
+    ∙ ap (λ m. Err (CountMismatch n m)) (sym named.1))
