@@ -1,6 +1,8 @@
 pub mod FewLines
 pub mod Readings
 pub mod Bridge
+pub mod PlaceLines
+pub mod Pieces
 pub mod Names
 pub mod Progresses
 pub mod AuxSteps
