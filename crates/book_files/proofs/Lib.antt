@@ -2,6 +2,7 @@ pub mod FewLines
 pub mod Readings
 pub mod Bridge
 pub mod PlaceLines
+pub mod PlacementText
 pub mod Pieces
 pub mod Names
 pub mod Progresses

@@ -10,7 +10,7 @@ ghost use Rattle.book_files.specs.Entries.{PlaceEntry, place_entry, place_entrie
 
 use crate::orient::Orient;
 use crate::records::PlaceLine;
-use book_text::{Memory, Micro, put_micro};
+use book_text::{Memory, Micro, canonical_is_word, canonical_reads_back, put_micro, spaced_words};
 use std::alloc::Global;
 
 /// The text of these places: the header, and a line `NAME X Y : ORIENT` for each, with `/FIXED` behind it where it is
@@ -75,4 +75,8 @@ fn orient_word(orient: Orient) -> &'static [u8]
 /// A law: a reader gives these places back, numbered from line 2 on, where their numbers are in range.
 pub fn placement_reads_back()
     ensures { (places : List PlaceEntry) → AllByRecursion IsWritable places → IsReading places_grammar (placement_text places) (numbered 2 places) }
-{}
+{
+    spaced_words();
+    canonical_reads_back();
+    canonical_is_word();
+}
