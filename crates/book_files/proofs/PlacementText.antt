@@ -32,9 +32,15 @@ fixed_are_words true = (plain (codes "/FIXED") (omega arith) refl (λ e. omega (
 
 header_are_words : All IsWord (codes "UCLA" ∷ codes "pl" ∷ codes "1.0" ∷ [])
 header_are_words = All-from_recursion IsWord (codes "UCLA" ∷ codes "pl" ∷ codes "1.0" ∷ []) (
-    plain (codes "UCLA") (omega arith) refl (λ e. omega (arith, e)) (λ e. omega (arith, e)), (
-    plain (codes "pl") (omega arith) refl (λ e. omega (arith, e)) (λ e. omega (arith, e)), (
-    plain (codes "1.0") (omega arith) refl (λ e. omega (arith, e)) (λ e. omega (arith, e)), tt)))
+  plain (codes "UCLA") (omega arith) refl (λ e. omega (arith, e)) (λ e. omega (arith, e)),
+  (
+    plain (codes "pl") (omega arith) refl (λ e. omega (arith, e)) (λ e. omega (arith, e)),
+    (
+      plain (codes "1.0") (omega arith) refl (λ e. omega (arith, e)) (λ e. omega (arith, e)),
+      tt,
+    ),
+  ),
+)
 
 colon_is_word : IsWord (codes ":")
 colon_is_word = record { some = omega arith; unbroken = refl; colons = inl refl }
@@ -73,12 +79,21 @@ module _ (words_back : (words : List (List ℕ)) → All IsWord words → words_
 
   are_words : (place : PlaceEntry) → IsWritable place → All IsWord (place_words place)
   are_words place good = All-from_recursion IsWord (place_words place) (
-      good.name.word, (
-      number_word place.x good.range.x.low good.range.x.high, (
-      number_word place.y good.range.y.low good.range.y.high, (
-      colon_is_word, (
-      orient_is_word place.orient,
-      fixed_are_words place.fixed)))))
+    good.name.word,
+    (
+      number_word place.x good.range.x.low good.range.x.high,
+      (
+        number_word place.y good.range.y.low good.range.y.high,
+        (
+          colon_is_word,
+          (
+            orient_is_word place.orient,
+            fixed_are_words place.fixed,
+          ),
+        ),
+      ),
+    ),
+  )
 
   abbrev at_line : ℕ → PlaceEntry → PlaceEntry
   at_line n place = record { line = n; name = place.name; x = place.x; y = place.y; orient = place.orient; fixed = place.fixed }
