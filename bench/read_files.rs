@@ -536,7 +536,7 @@ fn main() {
             blocks
                 .iter()
                 .flat_map(|n| {
-                    n.pins.iter().map(|p| {
+                    n.pins.iter().map(move |p| {
                         p.line
                             + p.node.len() as u64
                             + (p.dx + p.dy) as u64
