@@ -10,7 +10,7 @@ use Rattle.book_files.specs.Grammar.{AreItems, IsReading}
 use Rattle.book_files.specs.Places.{PlaceItem, header, placed, place_in, orient_of, is_fixed_mark}
 use Rattle.book_files.specs.PlaceRules.{IsPlaceEnd, IsPlaceShape, IsPlaceLine, places_grammar}
 use Rattle.book_files.specs.Entries.{PlaceEntry}
-use Rattle.book_files.specs.PlaceText.{IsName, IsWritable, orient_word, fixed_words, place_words, line_of, placement_text, numbered}
+use Rattle.book_files.specs.PlaceText.{IsWritable, orient_word, fixed_words, place_words, line_of, placement_text, numbered}
 
 -- a word without a colon at either end
 plain : (word : List ℕ) → 0 < length word → list_all is_word_byte word ≡ true → slice_index word 0 ≢ 58 → slice_index word (length word - 1) ≢ 58 → IsWord word

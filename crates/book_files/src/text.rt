@@ -5,7 +5,8 @@ ghost use Rattle.std.specs.List.{AllByRecursion};
 ghost use Rattle.book_text.specs.Decimal.{canonical};
 ghost use Rattle.book_files.specs.Grammar.{IsReading};
 ghost use Rattle.book_files.specs.PlaceRules.{places_grammar};
-ghost use Rattle.book_files.specs.PlaceText.{IsName, IsWritable, orient_word, place_words, line_of, placement_text, numbered};
+ghost use Rattle.book_files.specs.Ranges.{IsName};
+ghost use Rattle.book_files.specs.PlaceText.{IsWritable, orient_word, place_words, line_of, placement_text, numbered};
 ghost use Rattle.book_files.specs.Entries.{PlaceEntry, place_entry, place_entries};
 
 use crate::orient::Orient;
