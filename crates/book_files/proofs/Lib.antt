@@ -6,6 +6,9 @@ pub mod AuxDecides
 pub mod NodeDecides
 pub mod WeightDecides
 pub mod PlaceDecides
+pub mod PlaceLines
+pub mod PlacementText
+pub mod Pieces
 pub mod Names
 pub mod Progresses
 pub mod AuxSteps
