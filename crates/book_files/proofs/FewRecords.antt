@@ -31,13 +31,13 @@ pub at_ok : {A E : Type 0} (P : A → Type 0) (r : Result A E) (x : A) → r ≡
 at_ok P r x is good = subst (λ s. IfOk s P) is good
 
 -- what each meaning has, each item has
-pub all-mean : {I R : Type 0} (form : Form I R) (P : I → Type 0) → ((before : List I) (line : NumberedLine) → IfOk (form.meaning before line) P)
-    → (before : List I) (lines : List NumberedLine) (items : List I) → Mean form before lines items → AllByRecursion P items
-all-mean form P each before [] [] mean = tt
-all-mean form P each before [] (item ∷ items) mean = absurd mean
-all-mean form P each before (line ∷ lines) [] mean = absurd mean
-all-mean form P each before (line ∷ lines) (item ∷ items) mean =
-    (at_ok P (form.meaning before line) item mean.0 (each before line), all-mean form P each (before ++ item ∷ []) lines items mean.1)
+pub all-mean : {I R : Type 0} (form : Form I R) (Q : NumberedLine → Type 0) (P : I → Type 0) → ((before : List I) (line : NumberedLine) → Q line → IfOk (form.meaning before line) P)
+    → (before : List I) (lines : List NumberedLine) (items : List I) → Mean form before lines items → AllByRecursion Q lines → AllByRecursion P items
+all-mean form Q P each before [] [] mean all = tt
+all-mean form Q P each before [] (item ∷ items) mean all = absurd mean
+all-mean form Q P each before (line ∷ lines) [] mean all = absurd mean
+all-mean form Q P each before (line ∷ lines) (item ∷ items) mean all =
+    (at_ok P (form.meaning before line) item mean.0 (each before line all.0), all-mean form Q P each (before ++ item ∷ []) lines items mean.1 all.1)
 
 onto_some : {A : Type 0} (P : A → Type 0) (o : Option A) (xs : List A) → IfSome o P → AllByRecursion P xs → AllByRecursion P (cons_option o xs)
 onto_some P (Some x) xs here rest = (here, rest)
@@ -55,6 +55,11 @@ pub length-filter_map-le : {I A : Type 0} (kind : I → Option A) (items : List 
 length-filter_map-le kind [] = omega arith
 length-filter_map-le kind (item ∷ items) = length-cons_option-le (kind item) (filter_map kind items) (length items) (length-filter_map-le kind items)
 
+-- where nothing is asked of a line
+pub any_lines : (lines : List NumberedLine) → AllByRecursion (λ line. Unit {0}) lines
+any_lines [] = tt
+any_lines (line ∷ lines) = (tt, any_lines lines)
+
 -- Records that are the items of a kind are few, and good where each meaning is.
 module _ {I A : Type 0} (form : Form I (List A)) (kind : I → Option A) (text : List ℕ) (records : List A)
     (ends : (items : List I) → form.ending items ≡ Ok records → records ≡ filter_map kind items) (reads : Reads form text records) where
@@ -62,6 +67,7 @@ module _ {I A : Type 0} (form : Form I (List A)) (kind : I → Option A) (text :
   records_few = let is = ap length (ends reads.items reads.make) in
       omega (arith, length-filter_map-le kind reads.items, length-mean form [] (content_of text) reads.items reads.mean, length-content_of-le text)
 
-  pub records_good : (P : A → Type 0) → ((before : List I) (line : NumberedLine) → IfOk (form.meaning before line) (λ item. IfSome (kind item) P)) → AllByRecursion P records
-  records_good P each = subst (AllByRecursion P) (sym (ends reads.items reads.make))
-      (all-filter_map P kind reads.items (all-mean form (λ item. IfSome (kind item) P) each [] (content_of text) reads.items reads.mean))
+  pub records_good : (Q : NumberedLine → Type 0) (P : A → Type 0) → AllByRecursion Q (content_of text)
+      → ((before : List I) (line : NumberedLine) → Q line → IfOk (form.meaning before line) (λ item. IfSome (kind item) P)) → AllByRecursion P records
+  records_good Q P lines each = subst (AllByRecursion P) (sym (ends reads.items reads.make))
+      (all-filter_map P kind reads.items (all-mean form Q (λ item. IfSome (kind item) P) each [] (content_of text) reads.items reads.mean lines))

@@ -2,7 +2,7 @@
 use Rattle.std.proofs.Common.{◌≡◌, ℕ, ◌≤◌, Bool, false, true, List, [], ◌∷◌, length, Option, Some, None, Ok, Err, IfOk, codes}
 use Rattle.std.specs.Option.{IfSome}
 use Rattle.std.specs.List.{AllByRecursion, filter_map}
-use Rattle.book_text.specs.Lines.{NumberedLine}
+use Rattle.book_text.specs.Lines.{NumberedLine, content_of}
 use Rattle.book_files.specs.declared.orient.Orient.{Orient}
 use Rattle.book_files.specs.declared.orient.Orient.TheVariants.{N}
 use Rattle.book_files.specs.declared.fault.TextKind.TheVariants.{BadHeader, BadLine}
@@ -11,7 +11,7 @@ use Rattle.book_files.specs.Entries.{PlaceEntry}
 use Rattle.book_files.specs.Places.{PlaceItem, header, placed, place_in, orient_of, is_fixed_mark, placed_at, turned, place_of, place_meaning, place_ending, place_form}
 use Rattle.book_files.specs.Form.{Reads}
 use Rattle.book_files.specs.Ranges.{IsInRange, IsPlaceInRange}
-use Rattle.book_files.proofs.FewRecords.{records_few, records_good}
+use Rattle.book_files.proofs.FewRecords.{any_lines, records_few, records_good}
 use Rattle.book_files.proofs.GoodRecords.{bind_good, if_good, number_good}
 
 abbrev IsGoodItem : PlaceItem → Type 0
@@ -50,4 +50,4 @@ pub places_few : (text : List ℕ) (places : List PlaceEntry) → Reads place_fo
 places_few text places reads = records_few place_form place_in text places (ending_is places) reads
 
 pub places_good : (text : List ℕ) (places : List PlaceEntry) → Reads place_form text places → AllByRecursion IsPlaceInRange places
-places_good text places reads = records_good place_form place_in text places (ending_is places) reads IsPlaceInRange meaning_good
+places_good text places reads = records_good place_form place_in text places (ending_is places) reads (λ line. Unit {0}) IsPlaceInRange (any_lines (content_of text)) (λ before line any. meaning_good before line)

@@ -2,14 +2,14 @@
 use Rattle.std.proofs.Common.{◌≡◌, ℕ, ◌≤◌, List, [], ◌∷◌, length, Ok, Err, IfOk, codes}
 use Rattle.std.specs.Option.{IfSome}
 use Rattle.std.specs.List.{AllByRecursion, filter_map}
-use Rattle.book_text.specs.Lines.{NumberedLine}
+use Rattle.book_text.specs.Lines.{NumberedLine, content_of}
 use Rattle.book_files.specs.declared.fault.TextKind.TheVariants.{BadHeader}
 use Rattle.book_files.specs.Words.{is_header, number_of}
 use Rattle.book_files.specs.Entries.{WeightEntry}
 use Rattle.book_files.specs.Weights.{WeightItem, header, weighed, weight_in, weight_of, weight_meaning, weight_ending, weight_form}
 use Rattle.book_files.specs.Form.{Reads}
 use Rattle.book_files.specs.Ranges.{IsInRange, IsWeightInRange}
-use Rattle.book_files.proofs.FewRecords.{records_few, records_good}
+use Rattle.book_files.proofs.FewRecords.{any_lines, records_few, records_good}
 use Rattle.book_files.proofs.GoodRecords.{bind_good, if_good, number_good}
 
 abbrev IsGoodItem : WeightItem → Type 0
@@ -32,4 +32,4 @@ pub weights_few : (text : List ℕ) (weights : List WeightEntry) → Reads weigh
 weights_few text weights reads = records_few weight_form weight_in text weights (ending_is weights) reads
 
 pub weights_good : (text : List ℕ) (weights : List WeightEntry) → Reads weight_form text weights → AllByRecursion IsWeightInRange weights
-weights_good text weights reads = records_good weight_form weight_in text weights (ending_is weights) reads IsWeightInRange meaning_good
+weights_good text weights reads = records_good weight_form weight_in text weights (ending_is weights) reads (λ line. Unit {0}) IsWeightInRange (any_lines (content_of text)) (λ before line any. meaning_good before line)

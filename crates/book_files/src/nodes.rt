@@ -12,6 +12,7 @@ use crate::name::Name;
 use crate::records::NodeLine;
 use crate::walk::{Progress, keep_lines};
 use crate::words::{count_of, is_header, is_keyed, is_keyword, size_of};
+use book_text::spaced_words;
 use std::alloc::Global;
 use std::marker::Model;
 
@@ -56,6 +57,7 @@ pub fn read_nodes(alloc: Global, bytes: &[u8]) -> Result<NodeFile<'_>, ReadError
         lines: Vec::new(alloc),
     };
     keep_lines(alloc, bytes, &mut so_far)?;
+    spaced_words();
     match so_far.fault() {
         None => Ok(NodeFile {
             lines: so_far.lines,

@@ -13,7 +13,7 @@ pub returns-in_err-keep_lines-clause-reading : goal.returns-in_err-keep_lines-cl
 returns-in_err-keep_lines-clause-reading c = answers_of node_form nodes_grammar nodes_decided (λ (file : List NodeEntry). file) c.args.bytes.now c.from_residual.result (search rules)
 
 pub invariant_of-result : goal.invariant_of-result
-invariant_of-result c = nodes_good c.args.bytes.now (node_entries c.keep_lines.new.progress.lines.items) (grind (arith, common_steps))
+invariant_of-result c = nodes_good c.args.bytes.now (node_entries c.keep_lines.new.progress.lines.items) (c.spaced_words.ensures.found 1 c.args.bytes.now) (grind (arith, common_steps))
 
 pub returns-in-None-clause-reading : goal.returns-in-None-clause-reading
 returns-in-None-clause-reading c =
