@@ -1,4 +1,4 @@
-use Rattle.std.proofs.Common.{◌≡◌, ℕ, ◌<◌, ◌≤◌, List, length, take, vec_len, ap, ◌∙◌, arith}
+use Rattle.std.proofs.Common.{ℕ, ◌<◌, ◌≤◌, List, length, take, vec_len, ap, ◌∙◌, arith}
 use Rattle.std.proofs.lemmas.List.{length-take-le}
 use Rattle.book_files.specs.Loading.{most_bytes}
 use Rattle.book_files.proofs.Pieces.{IsFront-begin, IsSome-front, IsFront-read, content-end, take-lent, room-falls}

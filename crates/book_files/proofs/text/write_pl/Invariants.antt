@@ -1,5 +1,5 @@
-use Rattle.std.proofs.Common.{◌≡◌, ◌++◌, take, map, flat_map}
-use Rattle.book_files.specs.PlaceText.{place_words, line_of, placement_text}
+use Rattle.std.proofs.Common.{◌≡◌, take}
+use Rattle.book_files.specs.PlaceText.{placement_text}
 use Rattle.book_files.specs.Entries.{place_entries}
 use Rattle.book_files.proofs.text.write_pl.Given as goal
 

@@ -2,7 +2,6 @@ use Rattle.std.proofs.Common.{rules, List, Ok, Err}
 use Rattle.book_files.specs.Entries.{WeightEntry, weight_entries}
 use Rattle.book_files.specs.Weights.{weight_form}
 use Rattle.book_files.specs.WeightRules.{weights_grammar}
-use Rattle.book_files.specs.Form.{Reads}
 use Rattle.book_files.proofs.Bridge.{answers_of}
 use Rattle.book_files.proofs.WeightDecides.{weights_decided}
 use Rattle.book_files.proofs.GoodWeights.{weights_few, weights_good}
