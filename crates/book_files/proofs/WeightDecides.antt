@@ -1,10 +1,9 @@
 -- What the weights reader decides of a line is what the rules say.
-use Rattle.std.proofs.Common.{◌≡◌, ◌≢◌, ℕ, ◌≤◌, List, [], ◌∷◌, length, codes, Result, Ok, Err, refl, sym, ap, ◌∙◌, arith}
+use Rattle.std.proofs.Common.{◌≡◌, ℕ, ◌≤◌, List, [], ◌∷◌, length, codes, Ok, Err, refl, sym, ap, arith}
 use Rattle.std.proofs.lemmas.Bool.{cond-true}
 use Rattle.book_text.specs.Lines.{NumberedLine}
-use Rattle.book_files.specs.declared.fault.TextKind.{TextKind}
-use Rattle.book_files.specs.declared.fault.TextKind.TheVariants.{BadHeader, BadLine}
-use Rattle.book_files.specs.Words.{◌>>=◌, is_header, number_of}
+use Rattle.book_files.specs.declared.fault.TextKind.TheVariants.{BadHeader}
+use Rattle.book_files.specs.Words.{is_header, number_of}
 use Rattle.book_files.specs.Entries.{WeightEntry}
 use Rattle.book_files.specs.Shapes.{IsNumber}
 use Rattle.book_files.specs.Weights.{WeightItem, header, weighed, weight_in, weight_of, weight_meaning, weight_ending, weight_form}

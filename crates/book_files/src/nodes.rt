@@ -4,7 +4,7 @@ ghost use Rattle.book_files.specs.Ranges.{IsNodeInRange};
 ghost use Rattle.book_files.specs.Grammar.{Answers};
 ghost use Rattle.book_files.specs.NodeRules.{nodes_grammar};
 ghost use Rattle.book_files.specs.Progress.{Gives};
-ghost use Rattle.book_files.specs.Nodes.{node_form, node, sized, node_of};
+ghost use Rattle.book_files.specs.Nodes.{node, sized, node_of};
 ghost use Rattle.book_files.specs.Entries.{node_entry, node_entries};
 
 use crate::fault::{LineError, ReadError, TextKind, fault_at_end};
