@@ -10,7 +10,7 @@ pub has_items-push : {I : Type 0} (items : List I) (item : I) → has_items (ite
 has_items-push [] item = refl
 has_items-push (first ∷ items) item = refl
 
-last_of-push : {A : Type 0} (xs : List A) (x : A) → last_of (xs ++ x ∷ []) ≡ Some x
+pub last_of-push : {A : Type 0} (xs : List A) (x : A) → last_of (xs ++ x ∷ []) ≡ Some x
 last_of-push [] x = refl
 last_of-push (y ∷ []) x = refl
 last_of-push (y ∷ z ∷ xs) x = last_of-push (z ∷ xs) x

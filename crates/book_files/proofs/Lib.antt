@@ -5,6 +5,7 @@ pub mod Names
 pub mod Progresses
 pub mod AuxSteps
 pub mod Items
+pub mod GroupSteps
 pub mod NodeSteps
 pub mod WeightSteps
 pub mod PlaceSteps
