@@ -36,20 +36,20 @@ pub content_within : (text : List ℕ) → AllByRecursion (λ line. line.number 
 content_within text = all-filter (λ line. line.number ≤ length text) (λ line. has_content line.words) (numbered_from 1 (lines_of text))
     (numbers_within (length text) 1 (lines_of text) (omega (arith, length-lines_of-le text)))
 
-length-content_of-le : (text : List ℕ) → length (content_of text) ≤ length text
+pub length-content_of-le : (text : List ℕ) → length (content_of text) ≤ length text
 length-content_of-le text = omega (arith, length-filter-le (λ line. has_content line.words) (numbered_from 1 (lines_of text)), length-numbered_from 1 (lines_of text), length-lines_of-le text)
 
-length-mean : {I R : Type 0} (form : Form I R) (before : List I) (lines : List NumberedLine) (items : List I) → Mean form before lines items → length items ≡ length lines
+pub length-mean : {I R : Type 0} (form : Form I R) (before : List I) (lines : List NumberedLine) (items : List I) → Mean form before lines items → length items ≡ length lines
 length-mean form before [] [] mean = refl
 length-mean form before [] (item ∷ items) mean = absurd mean
 length-mean form before (line ∷ lines) [] mean = absurd mean
 length-mean form before (line ∷ lines) (item ∷ items) mean = ap suc (length-mean form (before ++ item ∷ []) lines items mean.1)
 
-at_ok : {A E : Type 0} (P : A → Type 0) (r : Result A E) (x : A) → r ≡ Ok x → IfOk r P → P x
+pub at_ok : {A E : Type 0} (P : A → Type 0) (r : Result A E) (x : A) → r ≡ Ok x → IfOk r P → P x
 at_ok P r x is good = subst (λ s. IfOk s P) is good
 
 -- what each meaning has, each item has
-all-mean : {I R : Type 0} (form : Form I R) (Q : NumberedLine → Type 0) (P : I → Type 0) → ((before : List I) (line : NumberedLine) → Q line → IfOk (form.meaning before line) P)
+pub all-mean : {I R : Type 0} (form : Form I R) (Q : NumberedLine → Type 0) (P : I → Type 0) → ((before : List I) (line : NumberedLine) → Q line → IfOk (form.meaning before line) P)
     → (before : List I) (lines : List NumberedLine) (items : List I) → Mean form before lines items → AllByRecursion Q lines → AllByRecursion P items
 all-mean form Q P each before [] [] mean all = tt
 all-mean form Q P each before [] (item ∷ items) mean all = absurd mean
@@ -69,7 +69,7 @@ length-cons_option-le : {A : Type 0} (o : Option A) (xs : List A) (n : ℕ) → 
 length-cons_option-le (Some x) xs n few = omega arith
 length-cons_option-le None xs n few = omega arith
 
-length-filter_map-le : {I A : Type 0} (kind : I → Option A) (items : List I) → length (filter_map kind items) ≤ length items
+pub length-filter_map-le : {I A : Type 0} (kind : I → Option A) (items : List I) → length (filter_map kind items) ≤ length items
 length-filter_map-le kind [] = omega arith
 length-filter_map-le kind (item ∷ items) = length-cons_option-le (kind item) (filter_map kind items) (length items) (length-filter_map-le kind items)
 

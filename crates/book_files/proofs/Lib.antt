@@ -1,12 +1,14 @@
 pub mod FewLines
 pub mod Readings
 pub mod Bridge
+pub mod ShapeSteps
 pub mod Names
 pub mod Progresses
 pub mod AuxSteps
 pub mod Items
 pub mod GroupSteps
 pub mod NodeSteps
+pub mod NetSteps
 pub mod WeightSteps
 pub mod PlaceSteps
 pub mod FewRecords
@@ -14,3 +16,5 @@ pub mod GoodRecords
 pub mod GoodNodes
 pub mod GoodWeights
 pub mod GoodPlaces
+pub mod GoodNets
+pub mod NetDecides

@@ -1,4 +1,4 @@
-ghost use Rattle.std.specs.Prelude.{◌≡◌, ◌+◌, ◌≤◌, ◌++◌, [], ◌∷◌, map, length, IfOk, OnOk};
+ghost use Rattle.std.specs.Prelude.{◌≡◌, ◌+◌, ◌^◌, ◌<◌, ◌≤◌, ◌++◌, [], ◌∷◌, map, length, IfOk, OnOk};
 ghost use Rattle.std.specs.List.{AllByRecursion};
 ghost use Rattle.book_files.specs.Grammar.{Answers};
 ghost use Rattle.book_files.specs.NetRules.{nets_grammar};
@@ -48,7 +48,8 @@ impl<'a> Pins<'a> {
 
     /// How many pins there are.
     fn len(&self) -> usize
-        ensures { result ≡ length self.now }
+        ensures count { result ≡ length self.now }
+        ensures small { result < 2 ^ 63 }
     {
         self.lines.len()
     }
@@ -324,9 +325,19 @@ fn pin_of<'a>(number: u64, words: &[&'a [u8]]) -> Result<PinLine<'a>, TextKind>
 {
     match words {
         [node] => Ok(plain_pin(number, node)),
-        [node, direction] if is_direction(direction) => Ok(plain_pin(number, node)),
-        [node, direction, colon, x, y] if is_direction(direction) && is_colon(colon) => {
-            offset_pin(number, node, x, y)
+        [node, direction] => {
+            if is_direction(direction) {
+                Ok(plain_pin(number, node))
+            } else {
+                Err(TextKind::BadLine)
+            }
+        }
+        [node, direction, colon, x, y] => {
+            if is_direction(direction) && is_colon(colon) {
+                offset_pin(number, node, x, y)
+            } else {
+                Err(TextKind::BadLine)
+            }
         }
         _ => Err(TextKind::BadLine),
     }
