@@ -1,7 +1,7 @@
 use Rattle.book_files.specs.Weights.{weight_form}
 use Rattle.book_files.specs.WeightRules.{weights_grammar}
 use Rattle.book_files.proofs.Bridge.{one_answer_of}
-use Rattle.book_files.proofs.GoodNets.{refused_at}
+use Rattle.book_files.proofs.NetDecides.{nets_decided}
 use Rattle.book_files.proofs.laws.one_answer.Goals as goal
 
 pub returns-clause-aux : goal.returns-clause-aux
