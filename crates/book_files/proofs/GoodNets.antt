@@ -138,16 +138,3 @@ module _ (text : List ℕ) where
     -- or the fault at the end
     pub failed : (kind : TextKind) → at_end so_far ≡ Err kind → FirstFault net_form text (record { line = end_line text; kind = kind })
     failed kind fault = inr (record { items = stands.items; mean = stands.mean; first = ending ∙ ap (λ r. r >>= λ done. Ok (all_entries so_far)) fault; number = refl })
-
-  -- the first line that is refused
-  pub refused_at : (fault : TextFault) → RefusesAt (Refuses net_form) text fault → FirstFault net_form text fault
-  refused_at fault at = inl (record {
-    front = at.front;
-    line = at.line;
-    rest = at.rest;
-    lines = at.lines;
-    items = at.refused.items;
-    mean = at.refused.mean;
-    first = at.refused.first;
-    number = at.number;
-  })

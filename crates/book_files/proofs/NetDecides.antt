@@ -153,20 +153,14 @@ Judged before line (Err BadNumber) = IsNotShortAtLine before line.words × HasNe
 Judged before line (Err (CountMismatch told found)) = IsShortAtLine before line.words told found ⊎ IsPinTooMany before line.words told found
 
 module _ (first : NetItem) (rest : List NetItem) (line : NumberedLine) where
-  abbrev before : List NetItem
-  before = first ∷ rest
-
-  abbrev words : List (List ℕ)
-  words = line.words
-
   abbrev ByShape : Result NetItem TextKind → Type 0
-  ByShape r = Judges (HasNetsShape before words) (HasNetsNumbers words) (IsNetsItem before line) r
+  ByShape r = Judges (HasNetsShape (first ∷ rest) line.words) (HasNetsNumbers line.words) (IsNetsItem (first ∷ rest) line) r
 
-  not_first : before ≢ []
+  not_first : first ∷ rest ≢ []
   not_first = λ e. cc
 
   -- a line that can't be a pin too many, and isn't too early
-  by_shape : (r : Result NetItem TextKind) → IsNotShortAtLine before words → IsTrue (is_keyed_line words) → ByShape r → Judged before line r
+  by_shape : (r : Result NetItem TextKind) → IsNotShortAtLine (first ∷ rest) line.words → IsTrue (is_keyed_line line.words) → ByShape r → Judged (first ∷ rest) line r
   by_shape (Ok told) whole keyed j = (whole, j.0, j.1, (λ told found many. let e = many.shape.other in cc), j.2)
   by_shape (Err BadHeader) whole keyed j = j
   by_shape (Err BadLine) whole keyed j = (whole, j)
@@ -174,52 +168,52 @@ module _ (first : NetItem) (rest : List NetItem) (line : NumberedLine) where
   by_shape (Err (CountMismatch told found)) whole keyed j = absurd j
 
   -- what a keyed line has, by its keyword
-  numbers_of : IsTrue (is_keyed_line words) → HasWhole (word_at words 2) → HasNetsNumbers words
+  numbers_of : IsTrue (is_keyed_line line.words) → HasWhole (word_at line.words 2) → HasNetsNumbers line.words
   numbers_of keyed whole = record { count = λ _. whole; offset = λ other. cc }
 
-  total_shape : IsTrue (is_keyed (codes "numnets") words) → HasNetsShape before words → IsOnceShape (codes "numnets") total_in before words
+  total_shape : IsTrue (is_keyed (codes "numnets") line.words) → HasNetsShape (first ∷ rest) line.words → IsOnceShape (codes "numnets") total_in (first ∷ rest) line.words
   total_shape keyed (inl shape) = shape
-  total_shape keyed (inr (inl shape)) = let e = shape.keyed in let apart = nets_not_pins words keyed in cc
-  total_shape keyed (inr (inr (inl (None, shape)))) = let e = shape.0 in let apart = nets_not_start words keyed in cc
-  total_shape keyed (inr (inr (inl (Some name, shape)))) = let e = shape.0 in let apart = nets_not_start words keyed in cc
-  total_shape keyed (inr (inr (inr (last, shape)))) = let e = shape.other in let line = keyed_line-nets words keyed in cc
+  total_shape keyed (inr (inl shape)) = let e = shape.keyed in let apart = nets_not_pins line.words keyed in cc
+  total_shape keyed (inr (inr (inl (None, shape)))) = let e = shape.0 in let apart = nets_not_start line.words keyed in cc
+  total_shape keyed (inr (inr (inl (Some name, shape)))) = let e = shape.0 in let apart = nets_not_start line.words keyed in cc
+  total_shape keyed (inr (inr (inr (last, shape)))) = let e = shape.other in let line = keyed_line-nets line.words keyed in cc
 
-  pin_total_shape : IsTrue (is_keyed (codes "numpins") words) → HasNetsShape before words → IsOnceShape (codes "numpins") pin_total_in before words
-  pin_total_shape keyed (inl shape) = let e = shape.keyed in let apart = pins_not_nets words keyed in cc
+  pin_total_shape : IsTrue (is_keyed (codes "numpins") line.words) → HasNetsShape (first ∷ rest) line.words → IsOnceShape (codes "numpins") pin_total_in (first ∷ rest) line.words
+  pin_total_shape keyed (inl shape) = let e = shape.keyed in let apart = pins_not_nets line.words keyed in cc
   pin_total_shape keyed (inr (inl shape)) = shape
-  pin_total_shape keyed (inr (inr (inl (None, shape)))) = let e = shape.0 in let apart = pins_not_start words keyed in cc
-  pin_total_shape keyed (inr (inr (inl (Some name, shape)))) = let e = shape.0 in let apart = pins_not_start words keyed in cc
-  pin_total_shape keyed (inr (inr (inr (last, shape)))) = let e = shape.other in let line = keyed_line-pins words keyed in cc
+  pin_total_shape keyed (inr (inr (inl (None, shape)))) = let e = shape.0 in let apart = pins_not_start line.words keyed in cc
+  pin_total_shape keyed (inr (inr (inl (Some name, shape)))) = let e = shape.0 in let apart = pins_not_start line.words keyed in cc
+  pin_total_shape keyed (inr (inr (inr (last, shape)))) = let e = shape.other in let line = keyed_line-pins line.words keyed in cc
 
-  net_shape : IsTrue (is_net_start words) → HasNetsShape before words → (name : Option (List ℕ)) × IsNetShape words name
-  net_shape keyed (inl shape) = let e = shape.keyed in let apart = start_not_nets words keyed in cc
-  net_shape keyed (inr (inl shape)) = let e = shape.keyed in let apart = start_not_pins words keyed in cc
+  net_shape : IsTrue (is_net_start line.words) → HasNetsShape (first ∷ rest) line.words → (name : Option (List ℕ)) × IsNetShape line.words name
+  net_shape keyed (inl shape) = let e = shape.keyed in let apart = start_not_nets line.words keyed in cc
+  net_shape keyed (inr (inl shape)) = let e = shape.keyed in let apart = start_not_pins line.words keyed in cc
   net_shape keyed (inr (inr (inl shape))) = shape
-  net_shape keyed (inr (inr (inr (last, shape)))) = let e = shape.other in let line = keyed_line-start words keyed in cc
+  net_shape keyed (inr (inr (inr (last, shape)))) = let e = shape.other in let line = keyed_line-start line.words keyed in cc
 
-  pin_shape : IsOther words → HasNetsShape before words → HasPinLine before words
+  pin_shape : IsOther line.words → HasNetsShape (first ∷ rest) line.words → HasPinLine (first ∷ rest) line.words
   pin_shape other (inl shape) = let e = shape.keyed in let not = other.nets in cc
   pin_shape other (inr (inl shape)) = let e = shape.keyed in let not = other.pins in cc
   pin_shape other (inr (inr (inl (None, shape)))) = let e = shape.0 in let not = other.start in cc
   pin_shape other (inr (inr (inl (Some name, shape)))) = let e = shape.0 in let not = other.start in cc
   pin_shape other (inr (inr (inr shape))) = shape
 
-  not_start : IsFalse (is_net_start words) → IsNotShortAtLine before words
+  not_start : IsFalse (is_net_start line.words) → IsNotShortAtLine (first ∷ rest) line.words
   not_start other told found short = let e = short.0 in cc
 
-  total_judged : IsTrue (is_keyed (codes "numnets") words) → Judged before line (count_of (is_some (latest total_in before)) words >>= λ n. Ok (total n))
-  total_judged keyed = let is_keyed_one = keyed_line-nets words keyed in
-      by_shape _ (not_start (nets_not_start words keyed)) is_keyed_one
-      (judges_map (IsOnceShape (codes "numnets") total_in before words) (HasWhole (word_at words 2)) (IsWhole (word_at words 2)) (HasNetsShape before words) (HasNetsNumbers words) (IsNetsItem before line) total
-      (count_of (is_some (latest total_in before)) words) (λ shape. inl shape) (total_shape keyed) (λ shape whole. numbers_of is_keyed_one whole) (λ shape numbers. numbers.count is_keyed_one)
-      (λ n shape is. (not_first, shape, is)) (count_judged (codes "numnets") total_in before words keyed))
+  total_judged : IsTrue (is_keyed (codes "numnets") line.words) → Judged (first ∷ rest) line (count_of (is_some (latest total_in (first ∷ rest))) line.words >>= λ n. Ok (total n))
+  total_judged keyed = let is_keyed_one = keyed_line-nets line.words keyed in
+      by_shape _ (not_start (nets_not_start line.words keyed)) is_keyed_one
+      (judges_map (IsOnceShape (codes "numnets") total_in (first ∷ rest) line.words) (HasWhole (word_at line.words 2)) (IsWhole (word_at line.words 2)) (HasNetsShape (first ∷ rest) line.words) (HasNetsNumbers line.words) (IsNetsItem (first ∷ rest) line) total
+      (count_of (is_some (latest total_in (first ∷ rest))) line.words) (λ shape. inl shape) (total_shape keyed) (λ shape whole. numbers_of is_keyed_one whole) (λ shape numbers. numbers.count is_keyed_one)
+      (λ n shape is. (not_first, shape, is)) (count_judged (codes "numnets") total_in (first ∷ rest) line.words keyed))
 
-  pin_total_judged : IsTrue (is_keyed (codes "numpins") words) → Judged before line (count_of (is_some (latest pin_total_in before)) words >>= λ p. Ok (pin_total p))
-  pin_total_judged keyed = let is_keyed_one = keyed_line-pins words keyed in
-      by_shape _ (not_start (pins_not_start words keyed)) is_keyed_one
-      (judges_map (IsOnceShape (codes "numpins") pin_total_in before words) (HasWhole (word_at words 2)) (IsWhole (word_at words 2)) (HasNetsShape before words) (HasNetsNumbers words) (IsNetsItem before line) pin_total
-      (count_of (is_some (latest pin_total_in before)) words) (λ shape. inr (inl shape)) (pin_total_shape keyed) (λ shape whole. numbers_of is_keyed_one whole) (λ shape numbers. numbers.count is_keyed_one)
-      (λ p shape is. (not_first, shape, is)) (count_judged (codes "numpins") pin_total_in before words keyed))
+  pin_total_judged : IsTrue (is_keyed (codes "numpins") line.words) → Judged (first ∷ rest) line (count_of (is_some (latest pin_total_in (first ∷ rest))) line.words >>= λ p. Ok (pin_total p))
+  pin_total_judged keyed = let is_keyed_one = keyed_line-pins line.words keyed in
+      by_shape _ (not_start (pins_not_start line.words keyed)) is_keyed_one
+      (judges_map (IsOnceShape (codes "numpins") pin_total_in (first ∷ rest) line.words) (HasWhole (word_at line.words 2)) (IsWhole (word_at line.words 2)) (HasNetsShape (first ∷ rest) line.words) (HasNetsNumbers line.words) (IsNetsItem (first ∷ rest) line) pin_total
+      (count_of (is_some (latest pin_total_in (first ∷ rest))) line.words) (λ shape. inr (inl shape)) (pin_total_shape keyed) (λ shape whole. numbers_of is_keyed_one whole) (λ shape numbers. numbers.count is_keyed_one)
+      (λ p shape is. (not_first, shape, is)) (count_judged (codes "numpins") pin_total_in (first ∷ rest) line.words keyed))
 
 -- a line that starts a net
 
@@ -411,14 +405,102 @@ item_back (first ∷ rest) line (pin entry) is = let of = is.1 in let other = ot
     (pin_back line.number line.words entry of.shape.shape (record { line = of.number; node = of.node; offset = of.offset }))
     ∙ cond-true (nat_lt (length of.last.parts) of.last.head.degree) _ _ (lt-ltb (length of.last.parts) of.last.head.degree of.room)))))
 
+-- the end
+
+abbrev EndIs : List NetItem → Result (List NetEntry) TextKind → Type 0
+EndIs items (Ok nets) = IsNetsFile items nets
+EndIs items (Err kind) = IsNetsEndFault items kind
+
+module _ (first : NetItem) (rest : List NetItem) where
+  abbrev items_of : List NetItem
+  items_of = first ∷ rest
+
+  abbrev nets_of : List NetEntry
+  nets_of = map entry_of_net (nets_in items_of)
+
+  abbrev totals_of : Option ℕ → Option ℕ → Result (List NetEntry) TextKind
+  totals_of told pin_told = totals told pin_told nets_of (pins_found items_of)
+
+  length_of : length nets_of ≡ length (nets_in items_of)
+  length_of = length-map (nets_in items_of) entry_of_net
+
+  totals_judged : IsNotShort items_of → (told pin_told : Option ℕ) → latest total_in items_of ≡ told → latest pin_total_in items_of ≡ pin_told → EndIs items_of (totals_of told pin_told)
+  totals_judged whole None pin_told is pins_are = (λ e. cc, whole, inl is)
+  totals_judged whole (Some n) None is pins_are = (λ e. cc, whole, inr pins_are)
+  totals_judged whole (Some n) (Some p) is pins_are = at (n == length nets_of) (p == pins_found items_of) refl refl where
+    at : (a b : Bool) → (n == length nets_of) ≡ a → (p == pins_found items_of) ≡ b
+        → EndIs items_of (if a then (if b then Ok nets_of else Err (CountMismatch p (pins_found items_of))) else Err (CountMismatch n (length nets_of)))
+    at true true nets pins = record { blocks = refl; whole = whole; count = is ∙ ap Some (eqb-true n (length nets_of) nets); pins = pins_are ∙ ap Some (eqb-true p (pins_found items_of) pins) }
+    at true false nets pins = inr (inr (record { whole = whole; count = is ∙ ap Some (eqb-true n (length nets_of) nets ∙ length_of); pins = pins_are; stand = refl; differ = eqb-false p (pins_found items_of) pins }))
+    at false b nets pins = inr (inl (record { whole = whole; count = is; pins = λ none. let e = sym pins_are ∙ none in cc; nets = length_of; differ = eqb-false n (length nets_of) nets }))
+
+  end_judged : EndIs items_of (net_ending items_of)
+  end_judged = at (unless_short (open_net items_of)) (short_told items_of) where
+    at : (r : Result (Unit {0}) TextKind) → ShortIs items_of r → EndIs items_of (r >>= λ done. totals_of (latest total_in items_of) (latest pin_total_in items_of))
+    at (Ok done) whole = totals_judged whole (latest total_in items_of) (latest pin_total_in items_of) refl refl
+    at (Err BadHeader) short = absurd short
+    at (Err BadLine) short = absurd short
+    at (Err BadNumber) short = absurd short
+    at (Err (CountMismatch told found)) short = inl short
+
+  -- where the last net has its pins, the two totals decide
+  end_totals : IsNotShort items_of → (told pin_told : Option ℕ) → latest total_in items_of ≡ told → latest pin_total_in items_of ≡ pin_told → net_ending items_of ≡ totals_of told pin_told
+  end_totals whole told pin_told is pins_are = ap (λ r. r >>= λ done. totals_of (latest total_in items_of) (latest pin_total_in items_of)) (whole_back items_of whole) ∙ ap₂ totals_of is pins_are
+
+  missing : (told pin_told : Option ℕ) → (told ≡ None) ⊎ (pin_told ≡ None) → totals_of told pin_told ≡ Err BadLine
+  missing None pin_told none = refl
+  missing (Some n) None none = refl
+  missing (Some n) (Some p) (inl none) = cc
+  missing (Some n) (Some p) (inr none) = cc
+
+  other_nets : (n found : ℕ) (pin_told : Option ℕ) → pin_told ≢ None → found ≡ length (nets_in items_of) → n ≢ found → totals_of (Some n) pin_told ≡ Err (CountMismatch n found)
+  other_nets n found None some nets differ = absurd (some refl)
+  other_nets n found (Some p) some nets differ = let same : found ≡ length nets_of = nets ∙ sym length_of in
+      cond-false (n == length nets_of) _ _ (ne_eqb n (length nets_of) (λ e. differ (e ∙ sym same))) ∙ ap (λ k. Err (CountMismatch n k)) (sym same)
+
+  right_nets : (p : ℕ) → totals_of (Some (length (nets_in items_of))) (Some p) ≡ (if p == pins_found items_of then Ok nets_of else Err (CountMismatch p (pins_found items_of)))
+  right_nets p = cond-true (length (nets_in items_of) == length nets_of) _ _ (eq-eqb (length (nets_in items_of)) (length nets_of) (sym length_of))
+
+file_of : (items : List NetItem) (nets : List NetEntry) → net_ending items ≡ Ok nets → IsNetsFile items nets
+file_of [] nets ends = cc
+file_of (first ∷ rest) nets ends = subst (EndIs (first ∷ rest)) ends (end_judged first rest)
+
+end_of : (items : List NetItem) (kind : TextKind) → net_ending items ≡ Err kind → IsNetsEndFault items kind
+end_of [] kind ends = let is : BadHeader ≡ kind = cc in subst (IsNetsEndFault []) is refl
+end_of (first ∷ rest) kind ends = subst (EndIs (first ∷ rest)) ends (end_judged first rest)
+
+file_back : (items : List NetItem) (nets : List NetEntry) → IsNetsFile items nets → net_ending items ≡ Ok nets
+file_back [] nets file = let e = file.count in cc
+file_back (first ∷ rest) nets file = let items = first ∷ rest in
+    end_totals first rest file.whole _ _ (file.count ∙ ap (λ ns. Some (length ns)) file.blocks ∙ ap Some (length_of first rest)) file.pins
+    ∙ (right_nets first rest (pins_found items) ∙ (cond-true (pins_found items == pins_found items) _ _ (eq-eqb (pins_found items) (pins_found items) refl) ∙ ap Ok (sym file.blocks)))
+
+end_back : (items : List NetItem) (kind : TextKind) → IsNetsEndFault items kind → net_ending items ≡ Err kind
+end_back [] BadHeader fault = refl
+end_back [] BadLine fault = absurd (fault.0 refl)
+end_back [] BadNumber fault = absurd fault
+end_back [] (CountMismatch told found) (inl short) = let e = short.begun in cc
+end_back [] (CountMismatch told found) (inr (inl other)) = let e = other.count in cc
+end_back [] (CountMismatch told found) (inr (inr other)) = let e = other.count in cc
+end_back (first ∷ rest) BadHeader fault = cc
+end_back (first ∷ rest) BadLine fault = end_totals first rest fault.1 _ _ refl refl ∙ missing first rest (latest total_in (first ∷ rest)) (latest pin_total_in (first ∷ rest)) fault.2
+end_back (first ∷ rest) BadNumber fault = absurd fault
+end_back (first ∷ rest) (CountMismatch told found) (inl short) =
+    ap (λ r. r >>= λ done. totals_of first rest (latest total_in (first ∷ rest)) (latest pin_total_in (first ∷ rest))) (short_back (first ∷ rest) told found short)
+end_back (first ∷ rest) (CountMismatch told found) (inr (inl other)) =
+    end_totals first rest other.whole (Some told) _ other.count refl ∙ other_nets first rest told found (latest pin_total_in (first ∷ rest)) other.pins other.nets other.differ
+end_back (first ∷ rest) (CountMismatch told found) (inr (inr other)) = let items = first ∷ rest in
+    end_totals first rest other.whole _ (Some told) other.count other.pins ∙ (right_nets first rest told
+    ∙ (cond-false (told == pins_found items) _ _ (ne_eqb told (pins_found items) (λ e. other.differ (e ∙ sym other.stand))) ∙ ap (λ k. Err (CountMismatch told k)) (sym other.stand)))
+
 pub nets_decided : Decides net_form nets_grammar
 nets_decided = record {
   item = item_of;
   item_back = item_back;
   named = named_of;
   named_back = named_back;
-  file = ?;
-  file_back = ?;
-  end = ?;
-  end_back = ?;
+  file = file_of;
+  file_back = file_back;
+  end = end_of;
+  end_back = end_back;
 }
