@@ -13,7 +13,9 @@ pub mod Names
 pub mod Progresses
 pub mod AuxSteps
 pub mod Items
+pub mod GroupSteps
 pub mod NodeSteps
+pub mod NetSteps
 pub mod WeightSteps
 pub mod PlaceSteps
 pub mod FewRecords
@@ -21,3 +23,5 @@ pub mod GoodRecords
 pub mod GoodNodes
 pub mod GoodWeights
 pub mod GoodPlaces
+pub mod GoodNets
+pub mod NetDecides

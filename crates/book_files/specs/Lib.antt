@@ -22,3 +22,4 @@ pub mod PlaceText
 pub mod Loading
 pub mod Progress
 pub mod SoFar
+pub mod NetsSoFar
