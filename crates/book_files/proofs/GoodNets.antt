@@ -1,5 +1,5 @@
 -- The nets that a text reads as are few, with offsets in range.
-use Rattle.std.proofs.Common.{◌≡◌, ℕ, ◌+◌, ◌^◌, ◌<◌, ◌≤◌, ◌==◌, Bool, true, false, List, [], ◌∷◌, length, map, if◌then◌else◌, is_some, ℤ, pos, Option, Some, None, Result, Ok, Err, IfOk, inl, inr, codes, refl, ap, ◌∙◌, arith}
+use Rattle.std.proofs.Common.{◌≡◌, ℕ, ◌+◌, ◌^◌, ◌<◌, ◌≤◌, ◌==◌, Bool, true, false, List, [], ◌∷◌, length, map, if◌then◌else◌, is_some, Option, Some, None, Result, Ok, Err, IfOk, inr, codes, refl, ap, ◌∙◌, arith}
 use Rattle.std.specs.Option.{IfSome}
 use Rattle.std.specs.List.{AllByRecursion, filter_map, sum_by}
 use Rattle.std.proofs.lemmas.Bool.{cond_both}
@@ -9,16 +9,15 @@ use Rattle.std.proofs.lemmas.List.Sums.{sum_by-cons}
 use Rattle.book_text.specs.Lines.{NumberedLine, content_of, end_line}
 use Rattle.book_files.specs.declared.fault.TextKind.{TextKind}
 use Rattle.book_files.specs.declared.fault.TextKind.TheVariants.{BadHeader, BadLine, CountMismatch}
-use Rattle.book_files.specs.declared.fault.TextFault.{TextFault}
 use Rattle.book_files.specs.declared.nets.NetsSoFar.{NetsSoFar}
 use Rattle.book_files.specs.Words.{◌>>=◌, latest, is_header, is_keyed, is_colon_word, count_of, whole_of, number_of}
 use Rattle.book_files.specs.Groups.{Group}
 use Rattle.book_files.specs.Entries.{PinEntry, NetEntry}
-use Rattle.book_files.specs.Ranges.{IsInRange, IsPinInRange, IsNetInRange, pin_count}
+use Rattle.book_files.specs.Ranges.{IsPinInRange, IsNetInRange, pin_count}
 use Rattle.book_files.specs.Nets.{NetHead, NetItem, header, total, pin_total, net, pin, total_in, pin_total_in, net_in, pin_in, nets_in, open_net, unless_short, head_of, is_direction, offset_pin, plain_pin, pin_of, pin_behind, entry_of_net, net_meaning, net_ending, totals, net_form}
 use Rattle.book_files.specs.NetsSoFar.{IsNetsSoFar, all_entries, at_end}
 use Rattle.book_files.specs.Form.{Reads, FirstFault, Mean}
-use Rattle.book_files.specs.Progress.{StandsFor, Refuses, RefusesAt}
+use Rattle.book_files.specs.Progress.{StandsFor}
 use Rattle.book_files.proofs.FewRecords.{length-content_of-le, length-mean, length-filter_map-le, at_ok, all-mean}
 use Rattle.book_files.proofs.GoodRecords.{bind_good, number_good}
 use Rattle.book_files.proofs.GroupSteps.{all-groups, groups-few}
@@ -89,8 +88,12 @@ any_line (line ∷ lines) = (tt, any_line lines)
 
 pin_count-map : (nets : List (Group NetHead PinEntry)) → pin_count (map entry_of_net nets) ≡ sum_by (λ net. length net.parts) nets
 pin_count-map [] = refl
-pin_count-map (first ∷ nets) = omega (arith, pin_count-map nets, sum_by-cons (λ (net : NetEntry). length net.pins) (entry_of_net first) (map entry_of_net nets),
-    sum_by-cons (λ (net : Group NetHead PinEntry). length net.parts) first nets)
+pin_count-map (first ∷ nets) = omega (
+  arith,
+  pin_count-map nets,
+  sum_by-cons (λ (net : NetEntry). length net.pins) (entry_of_net first) (map entry_of_net nets),
+  sum_by-cons (λ (net : Group NetHead PinEntry). length net.parts) first nets,
+)
 
 in_range : (nets : List (Group NetHead PinEntry)) → AllByRecursion (λ net. AllByRecursion IsPinInRange net.parts) nets → AllByRecursion IsNetInRange (map entry_of_net nets)
 in_range [] all = tt

@@ -1,3 +1,5 @@
+mod nets;
+
 use crate::{Orient, ReadError, TextFault, TextKind, read_aux, read_nodes, read_pl, read_wts};
 use book_text::Micro;
 
