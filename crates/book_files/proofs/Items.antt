@@ -10,18 +10,18 @@ pub has_items-push : {I : Type 0} (items : List I) (item : I) → has_items (ite
 has_items-push [] item = refl
 has_items-push (first ∷ items) item = refl
 
-last_of-push : {A : Type 0} (xs : List A) (x : A) → last_of (xs ++ x ∷ []) ≡ Some x
+pub last_of-push : {A : Type 0} (xs : List A) (x : A) → last_of (xs ++ x ∷ []) ≡ Some x
 last_of-push [] x = refl
 last_of-push (y ∷ []) x = refl
 last_of-push (y ∷ z ∷ xs) x = last_of-push (z ∷ xs) x
 
 module _ {I A : Type 0} (kind : I → Option A) (items : List I) (item : I) where
   -- an item of the kind is one more
-  filter_map-yes : (a : A) → kind item ≡ Some a → filter_map kind (items ++ item ∷ []) ≡ filter_map kind items ++ a ∷ []
+  pub filter_map-yes : (a : A) → kind item ≡ Some a → filter_map kind (items ++ item ∷ []) ≡ filter_map kind items ++ a ∷ []
   filter_map-yes a is = filter_map-append kind items (item ∷ []) ∙ ap (λ o. filter_map kind items ++ cons_option o []) is
 
   -- another item is none
-  filter_map-no : kind item ≡ None → filter_map kind (items ++ item ∷ []) ≡ filter_map kind items
+  pub filter_map-no : kind item ≡ None → filter_map kind (items ++ item ∷ []) ≡ filter_map kind items
   filter_map-no is = filter_map-append kind items (item ∷ []) ∙ (ap (λ o. filter_map kind items ++ cons_option o []) is ∙ append-nil (filter_map kind items))
 
   pub latest-yes : (a : A) → kind item ≡ Some a → latest kind (items ++ item ∷ []) ≡ Some a

@@ -1,6 +1,11 @@
 pub mod FewLines
 pub mod Readings
 pub mod Bridge
+pub mod ShapeSteps
+pub mod GroupSteps
+pub mod RowLines
+pub mod RowRanges
+pub mod RowSteps
 pub mod Names
 pub mod Progresses
 pub mod AuxSteps
