@@ -6,6 +6,7 @@ pub mod GroupSteps
 pub mod RowLines
 pub mod RowRanges
 pub mod RowSteps
+pub mod RowDecides
 pub mod Names
 pub mod Progresses
 pub mod AuxSteps

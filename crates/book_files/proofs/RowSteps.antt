@@ -88,29 +88,29 @@ open_is items block rows has_open = ap (λ groups. open_in (last_of groups)) has
 
 module _ (line : NumberedLine) (old : RowsSoFar) where
   -- between blocks
-  meaning_outside : (items : List RowItem) → old.begun ≡ true → old.open ≡ None → IsRowsSoFar items old → row_meaning items line ≡ outside_of (is_some old.total) line.words
+  meaning_outside : (items : List RowItem) → old.begun ≡ true → old.current ≡ None → IsRowsSoFar items old → row_meaning items line ≡ outside_of (is_some old.total) line.words
   meaning_outside items some none so_far = let blocks = subst (λ o. AreBlocks o (blocks_in items) old.blocks.items) none so_far.blocks in
       meaning_begun items line (sym so_far.begun ∙ some) ∙ (ap (λ o. within_or_outside o (is_some (latest total_in items)) line.words) blocks.last
       ∙ ap (λ t. outside_of (is_some t) line.words) (sym so_far.total))
 
-  has_open_block : (items : List RowItem) (block : BlockSoFar) → old.open ≡ Some block → IsRowsSoFar items old → HasOpen block (blocks_in items) old.blocks.items
+  has_open_block : (items : List RowItem) (block : BlockSoFar) → old.current ≡ Some block → IsRowsSoFar items old → HasOpen block (blocks_in items) old.blocks.items
   has_open_block items block is so_far = subst (λ o. AreBlocks o (blocks_in items) old.blocks.items) is so_far.blocks
 
   -- within a block
-  meaning_within : (items : List RowItem) (block : BlockSoFar) → old.begun ≡ true → old.open ≡ Some block → IsRowsSoFar items old
+  meaning_within : (items : List RowItem) (block : BlockSoFar) → old.begun ≡ true → old.current ≡ Some block → IsRowsSoFar items old
       → row_meaning items line ≡ (part_of (block_told block) line.words >>= λ p. Ok (part p))
   meaning_within items block some is so_far = let blocks = has_open_block items block is so_far in
       meaning_begun items line (sym so_far.begun ∙ some) ∙ (ap (λ o. within_or_outside o (is_some (latest total_in items)) line.words) (open_is items block old.blocks.items blocks)
       ∙ ap (λ t. part_of t line.words >>= λ p. Ok (part p)) (sym blocks.told))
 
-at_end : (t : BlockTold) (words : List (List ℕ)) → is_row_end words ≡ true → part_of t words ≡ (row_of t >>= λ row. Ok ended)
+pub at_end : (t : BlockTold) (words : List (List ℕ)) → is_row_end words ≡ true → part_of t words ≡ (row_of t >>= λ row. Ok ended)
 at_end t words is = cond-true (is_row_end words) (row_of t >>= λ row. Ok ended) (inner_of t words) is
 
-part_inner : (t : BlockTold) (words : List (List ℕ)) → is_row_end words ≡ false → part_of t words ≡ inner_of t words
+pub part_inner : (t : BlockTold) (words : List (List ℕ)) → is_row_end words ≡ false → part_of t words ≡ inner_of t words
 part_inner t words other = cond-false (is_row_end words) (row_of t >>= λ row. Ok ended) (inner_of t words) other
 
 module _ (line : NumberedLine) (old new : RowsSoFar) where
-  pub header_kept : old.begun ≡ false → is_header (codes "scl") line.words ≡ true → new.begun ≡ true → new.total ≡ old.total → new.open ≡ old.open → new.blocks.items ≡ old.blocks.items
+  pub header_kept : old.begun ≡ false → is_header (codes "scl") line.words ≡ true → new.begun ≡ true → new.total ≡ old.total → new.current ≡ old.current → new.blocks.items ≡ old.blocks.items
       → (lines : List NumberedLine) → StandsFor row_form IsRowsSoFar old lines → StandsFor row_form IsRowsSoFar new (lines ++ line ∷ [])
   header_kept none is is_begun told same_open same lines before = kept row_form IsRowsSoFar lines line old new header (λ items so_far. (
     meaning_first items line (sym so_far.begun ∙ none) ∙ cond-true _ _ _ is,
@@ -122,8 +122,8 @@ module _ (line : NumberedLine) (old new : RowsSoFar) where
     },
   )) before
 
-  pub total_kept : (n : ℕ) → old.begun ≡ true → old.open ≡ None → is_keyed (codes "numrows") line.words ≡ true → count_of (is_some old.total) line.words ≡ Ok n
-      → new.begun ≡ true → new.total ≡ Some n → new.open ≡ None → new.blocks.items ≡ old.blocks.items
+  pub total_kept : (n : ℕ) → old.begun ≡ true → old.current ≡ None → is_keyed (codes "numrows") line.words ≡ true → count_of (is_some old.total) line.words ≡ Ok n
+      → new.begun ≡ true → new.total ≡ Some n → new.current ≡ None → new.blocks.items ≡ old.blocks.items
       → (lines : List NumberedLine) → StandsFor row_form IsRowsSoFar old lines → StandsFor row_form IsRowsSoFar new (lines ++ line ∷ [])
   total_kept n some none key counts is_begun told still_none same lines before = kept row_form IsRowsSoFar lines line old new (total n) (λ items so_far. (
     meaning_outside line old items some none so_far ∙ (cond-true _ _ _ key ∙ ap (λ r. r >>= λ m. Ok (total m)) counts),
@@ -135,8 +135,8 @@ module _ (line : NumberedLine) (old new : RowsSoFar) where
     },
   )) before
 
-  pub begun_kept : (block : BlockSoFar) → old.begun ≡ true → old.open ≡ None → is_keyed (codes "numrows") line.words ≡ false → is_row_start line.words ≡ true → block_told block ≡ nothing_told
-      → new.begun ≡ true → new.total ≡ old.total → new.open ≡ Some block → new.blocks.items ≡ old.blocks.items
+  pub begun_kept : (block : BlockSoFar) → old.begun ≡ true → old.current ≡ None → is_keyed (codes "numrows") line.words ≡ false → is_row_start line.words ≡ true → block_told block ≡ nothing_told
+      → new.begun ≡ true → new.total ≡ old.total → new.current ≡ Some block → new.blocks.items ≡ old.blocks.items
       → (lines : List NumberedLine) → StandsFor row_form IsRowsSoFar old lines → StandsFor row_form IsRowsSoFar new (lines ++ line ∷ [])
   begun_kept block some none other starts empty is_begun told opened same lines before = kept row_form IsRowsSoFar lines line old new begun (λ items so_far. (
     meaning_outside line old items some none so_far ∙ (cond-false _ _ _ other ∙ cond-true _ _ _ starts),
@@ -158,8 +158,8 @@ module _ (line : NumberedLine) (old new : RowsSoFar) where
       range = record { y = tt; height = tt; width = tt; spacing = tt; subrows = tt };
     }
 
-  pub part_kept : (block grown : BlockSoFar) → old.begun ≡ true → old.open ≡ Some block → is_row_end line.words ≡ false → HasPart (block_told block) line.words grown
-      → new.begun ≡ true → new.total ≡ old.total → new.open ≡ Some grown → new.blocks.items ≡ old.blocks.items
+  pub part_kept : (block grown : BlockSoFar) → old.begun ≡ true → old.current ≡ Some block → is_row_end line.words ≡ false → HasPart (block_told block) line.words grown
+      → new.begun ≡ true → new.total ≡ old.total → new.current ≡ Some grown → new.blocks.items ≡ old.blocks.items
       → (lines : List NumberedLine) → StandsFor row_form IsRowsSoFar old lines → StandsFor row_form IsRowsSoFar new (lines ++ line ∷ [])
   part_kept block grown some is other has_part is_begun told opened same lines before = kept row_form IsRowsSoFar lines line old new (part has_part.part) (λ items so_far. (
     meaning_within line old items block some is so_far ∙ ap (λ r. r >>= λ p. Ok (part p)) (part_inner (block_told block) line.words other ∙ has_part.means),
@@ -182,8 +182,8 @@ module _ (line : NumberedLine) (old new : RowsSoFar) where
       range = subst IsToldInRange (sym more) (told_range_more (told_by blocks.parts) p blocks.range inner.0);
     }
 
-  pub end_kept : (block : BlockSoFar) (row : RowBlock) → old.begun ≡ true → old.open ≡ Some block → is_row_end line.words ≡ true → row_of (block_told block) ≡ Ok (row_entry row)
-      → new.begun ≡ true → new.total ≡ old.total → new.open ≡ None → new.blocks.items ≡ old.blocks.items ++ row ∷ []
+  pub end_kept : (block : BlockSoFar) (row : RowBlock) → old.begun ≡ true → old.current ≡ Some block → is_row_end line.words ≡ true → row_of (block_told block) ≡ Ok (row_entry row)
+      → new.begun ≡ true → new.total ≡ old.total → new.current ≡ None → new.blocks.items ≡ old.blocks.items ++ row ∷ []
       → (lines : List NumberedLine) → StandsFor row_form IsRowsSoFar old lines → StandsFor row_form IsRowsSoFar new (lines ++ line ∷ [])
   end_kept block row some is key makes is_begun told closes pushed lines before = kept row_form IsRowsSoFar lines line old new (part ended) (λ items so_far. (
     meaning_within line old items block some is so_far ∙ (ap (λ r. r >>= λ p. Ok (part p)) (at_end (block_told block) line.words key) ∙ ap (λ r. (r >>= λ entry. Ok ended) >>= λ p. Ok (part p)) makes),
@@ -210,23 +210,23 @@ module _ (line : NumberedLine) (old new : RowsSoFar) where
     }
 
 module _ (line : NumberedLine) (old : RowsSoFar) where
-  pub end_refused : (block : BlockSoFar) (kind : TextKind) → old.begun ≡ true → old.open ≡ Some block → is_row_end line.words ≡ true → row_of (block_told block) ≡ Err kind
+  pub end_refused : (block : BlockSoFar) (kind : TextKind) → old.begun ≡ true → old.current ≡ Some block → is_row_end line.words ≡ true → row_of (block_told block) ≡ Err kind
       → (lines : List NumberedLine) → StandsFor row_form IsRowsSoFar old lines → Refuses row_form lines line kind
   end_refused block kind some is key fails lines before = refused row_form IsRowsSoFar lines line old kind (λ items so_far.
       meaning_within line old items block some is so_far ∙ (ap (λ r. r >>= λ p. Ok (part p)) (at_end (block_told block) line.words key) ∙ ap (λ r. (r >>= λ entry. Ok ended) >>= λ p. Ok (part p)) fails)) before
 
-  pub part_refused : (block : BlockSoFar) (kind : TextKind) → old.begun ≡ true → old.open ≡ Some block → is_row_end line.words ≡ false → inner_of (block_told block) line.words ≡ Err kind
+  pub part_refused : (block : BlockSoFar) (kind : TextKind) → old.begun ≡ true → old.current ≡ Some block → is_row_end line.words ≡ false → inner_of (block_told block) line.words ≡ Err kind
       → (lines : List NumberedLine) → StandsFor row_form IsRowsSoFar old lines → Refuses row_form lines line kind
   part_refused block kind some is other fails lines before = refused row_form IsRowsSoFar lines line old kind (λ items so_far.
       meaning_within line old items block some is so_far ∙ ap (λ r. r >>= λ p. Ok (part p)) (part_inner (block_told block) line.words other ∙ fails)) before
 
   -- what a call on the block refused
-  pub end_fails : {A : Type 0} (new : RowsSoFar) (block : BlockSoFar) (kind : TextKind) (r : Result A LineError) → IsErr r → IsErrAnd r (λ e. e ≡ Kind kind) → old.begun ≡ true → old.open ≡ Some block
+  pub end_fails : {A : Type 0} (new : RowsSoFar) (block : BlockSoFar) (kind : TextKind) (r : Result A LineError) → IsErr r → IsErrAnd r (λ e. e ≡ Kind kind) → old.begun ≡ true → old.current ≡ Some block
       → is_row_end line.words ≡ true → row_of (block_told block) ≡ Err kind → Keeps (StandsFor row_form IsRowsSoFar) (Refuses row_form) old new line r
   end_fails new block kind (Ok done) fails same some is key makes = cc
   end_fails new block kind (Err e) fails same some is key makes = rw same (end_refused block kind some is key makes)
 
-  pub part_fails : {A : Type 0} (new : RowsSoFar) (block : BlockSoFar) (error : LineError) (r : Result A LineError) → IsErr r → IsErrAnd r (λ e. e ≡ error) → old.begun ≡ true → old.open ≡ Some block
+  pub part_fails : {A : Type 0} (new : RowsSoFar) (block : BlockSoFar) (error : LineError) (r : Result A LineError) → IsErr r → IsErrAnd r (λ e. e ≡ error) → old.begun ≡ true → old.current ≡ Some block
       → is_row_end line.words ≡ false → IsOneMore (block_told block) line.words (Err error) → Keeps (StandsFor row_form IsRowsSoFar) (Refuses row_form) old new line r
   part_fails new block error (Ok done) fails same some is other told = cc
   part_fails new block (Kind kind) (Err e) fails same some is other told = rw same (part_refused block kind some is other told)

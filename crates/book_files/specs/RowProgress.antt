@@ -94,12 +94,12 @@ AreBlocks (Some block) groups rows = HasOpen block groups rows
 pub record IsRowsSoFar (items : List RowItem) (so_far : RowsSoFar) : Type 0 where
   pub begun : so_far.begun ≡ has_items items
   pub total : so_far.total ≡ latest total_in items
-  pub blocks : AreBlocks so_far.open (blocks_in items) so_far.blocks.items
+  pub blocks : AreBlocks so_far.current (blocks_in items) so_far.blocks.items
   pub ranges : AllByRecursion IsRowInRange (row_entries so_far.blocks.items)
 
 -- the fault where no line follows, if there is one
 abbrev pub rows_end_fault : RowsSoFar → Option TextKind
-rows_end_fault so_far = if so_far.begun then (if is_some so_far.open then Some BadLine else told_fault so_far.total so_far.blocks.items) else Some BadHeader where
+rows_end_fault so_far = if so_far.begun then (if is_some so_far.current then Some BadLine else told_fault so_far.total so_far.blocks.items) else Some BadHeader where
   told_fault : Option ℕ → List RowBlock → Option TextKind
   told_fault None rows = Some BadLine
   told_fault (Some n) rows = if n == length rows then None else Some (CountMismatch n (length rows))

@@ -102,7 +102,7 @@ pub fn read_scl(alloc: Global, bytes: &[u8]) -> Result<RowFile, ReadError>
         begun: false,
         total: None,
         blocks: Vec::new(alloc),
-        open: None,
+        current: None,
     };
     keep_lines(alloc, bytes, &mut so_far)?;
     match so_far.fault() {
@@ -120,7 +120,7 @@ struct RowsSoFar {
     begun: bool,
     total: Option<u64>,
     blocks: Vec<RowBlock>,
-    open: Option<BlockSoFar>,
+    current: Option<BlockSoFar>,
 }
 
 impl RowsSoFar {
@@ -133,7 +133,7 @@ impl RowsSoFar {
         if !self.begun {
             return Some(TextKind::BadHeader);
         }
-        if self.open.is_some() {
+        if self.current.is_some() {
             return Some(TextKind::BadLine);
         }
         let found = self.blocks.len() as u64;
@@ -162,12 +162,12 @@ impl<'a> Progress<'a> for RowsSoFar {
             self.begun = true;
             return Ok(());
         }
-        match self.open.take() {
+        match self.current.take() {
             None => {
                 if is_keyed(b"numrows", words) {
                     self.total = Some(count_of(self.total.is_some(), words)?);
                 } else if is_row_start(words) {
-                    self.open = Some(BlockSoFar::new(self.alloc));
+                    self.current = Some(BlockSoFar::new(self.alloc));
                 } else {
                     return Err(LineError::Kind(TextKind::BadLine));
                 }
@@ -176,7 +176,7 @@ impl<'a> Progress<'a> for RowsSoFar {
                 if is_row_end(words) {
                     self.blocks.push(block.row()?)?;
                 } else {
-                    self.open = Some(block.with(words)?);
+                    self.current = Some(block.with(words)?);
                 }
             }
         }

@@ -1,5 +1,8 @@
 use Rattle.book_files.specs.Weights.{weight_form}
 use Rattle.book_files.specs.WeightRules.{weights_grammar}
+use Rattle.book_files.specs.Rows.{row_form}
+use Rattle.book_files.specs.RowRules.{rows_grammar}
+use Rattle.book_files.proofs.RowDecides.{rows_decided}
 use Rattle.book_files.proofs.Bridge.{one_answer_of}
 use Rattle.book_files.proofs.laws.one_answer.Goals as goal
 
@@ -19,4 +22,4 @@ pub returns-clause-pl : goal.returns-clause-pl
 returns-clause-pl c = ?
 
 pub returns-clause-scl : goal.returns-clause-scl
-returns-clause-scl c = ?
+returns-clause-scl c text = one_answer_of row_form rows_grammar rows_decided text
