@@ -1,7 +1,7 @@
-//! The readers of `.nodes` and `.pl` texts written by hand in plain Rust, to measure the proved ones against.
+//! The readers of `.nodes`, `.nets` and `.pl` texts written by hand in plain Rust, to measure the proved ones against.
 //!
-//! Build and run it with `rustc -C opt-level=3 -C target-cpu=x86-64-v2 read_files.rs && ./read_files`. It makes texts of
-//! 50 MB in memory and prints the microseconds that each reading takes.
+//! `read_files.sh` builds and runs it beside the proved program. It makes texts of 50 MB in memory and prints the
+//! microseconds that each reading takes.
 
 use std::fmt::Write;
 use std::hint::black_box;
@@ -334,11 +334,151 @@ fn read_pl(text: &[u8]) -> Result<Vec<PlaceLine<'_>>, Fault> {
     }
 }
 
+struct PinLine<'a> {
+    line: u64,
+    node: &'a [u8],
+    dx: i64,
+    dy: i64,
+}
+
+struct NetBlock<'a> {
+    name: Option<&'a [u8]>,
+    pins: Vec<PinLine<'a>>,
+}
+
+fn pin_of<'a>(line: u64, words: &[&'a [u8]]) -> Result<PinLine<'a>, Kind> {
+    fn is_direction(word: &[u8]) -> bool {
+        matches!(word, b"I" | b"O" | b"B" | b"i" | b"o" | b"b")
+    }
+    let (node, dx, dy) = match words {
+        [node] => (node, 0, 0),
+        [node, direction] if is_direction(direction) => (node, 0, 0),
+        [node, direction, colon, x, y] if is_direction(direction) && *colon == b":" => {
+            (node, number_of(x)?, number_of(y)?)
+        }
+        _ => return Err(Kind::BadLine),
+    };
+    Ok(PinLine { line, node, dx, dy })
+}
+
+struct NetsSoFar<'a> {
+    begun: bool,
+    total: Option<u64>,
+    pin_total: Option<u64>,
+    pins: u64,
+    degree: u64,
+    nets: Vec<NetBlock<'a>>,
+}
+
+impl<'a> NetsSoFar<'a> {
+    fn close(&self) -> Result<(), Kind> {
+        match self.nets.last() {
+            Some(net) if (net.pins.len() as u64) < self.degree => Err(Kind::CountMismatch {
+                told: self.degree,
+                found: net.pins.len() as u64,
+            }),
+            _ => Ok(()),
+        }
+    }
+
+    fn keep(&mut self, number: u64, words: &[&'a [u8]]) -> Result<(), Kind> {
+        if !self.begun {
+            if !is_header(b"nets", words) {
+                return Err(Kind::BadHeader);
+            }
+            self.begun = true;
+        } else if is_keyed(b"numnets", words) {
+            self.total = Some(count_of(self.total.is_some(), words)?);
+        } else if is_keyed(b"numpins", words) {
+            self.pin_total = Some(count_of(self.pin_total.is_some(), words)?);
+        } else if is_keyed(b"netdegree", words) {
+            self.close()?;
+            let (degree, name) = match words {
+                [_, _, degree] => (degree, None),
+                [_, _, degree, name] => (degree, Some(*name)),
+                _ => return Err(Kind::BadLine),
+            };
+            self.degree = whole_of(degree)?;
+            self.nets.push(NetBlock {
+                name,
+                pins: Vec::new(),
+            });
+        } else {
+            let Some(net) = self.nets.last_mut() else {
+                return Err(Kind::BadLine);
+            };
+            let pin = pin_of(number, words)?;
+            if net.pins.len() as u64 == self.degree {
+                let told = self.degree;
+                return Err(Kind::CountMismatch {
+                    told,
+                    found: told + 1,
+                });
+            }
+            net.pins.push(pin);
+            self.pins += 1;
+        }
+        Ok(())
+    }
+
+    fn fault(&self) -> Option<Kind> {
+        if !self.begun {
+            return Some(Kind::BadHeader);
+        }
+        if let Err(kind) = self.close() {
+            return Some(kind);
+        }
+        let (Some(nets), Some(pins)) = (self.total, self.pin_total) else {
+            return Some(Kind::BadLine);
+        };
+        for (told, found) in [(nets, self.nets.len() as u64), (pins, self.pins)] {
+            if told != found {
+                return Some(Kind::CountMismatch { told, found });
+            }
+        }
+        None
+    }
+}
+
+fn read_nets(text: &[u8]) -> Result<Vec<NetBlock<'_>>, Fault> {
+    let mut so_far = NetsSoFar {
+        begun: false,
+        total: None,
+        pin_total: None,
+        pins: 0,
+        degree: 0,
+        nets: Vec::new(),
+    };
+    let line = each_line(text, |number, words| so_far.keep(number, words))?;
+    match so_far.fault() {
+        Some(kind) => Err(Fault { line, kind }),
+        None => Ok(so_far.nets),
+    }
+}
+
+fn nets_text() -> String {
+    let mut body = String::with_capacity(SIZE);
+    let mut count: u64 = 0;
+    for i in 0..4_000_000u64 {
+        if body.len() >= SIZE {
+            break;
+        }
+        writeln!(body, "NetDegree : 4 n{i}").unwrap();
+        for k in 0..4 {
+            let node = (i + k * 7919) % 100_003;
+            writeln!(body, "\to{node}\tI : -{k}.500000\t0.250000").unwrap();
+        }
+        count += 1;
+    }
+    let pins = count * 4;
+    format!("UCLA nets 1.0\n\nNumNets : {count}\nNumPins : {pins}\n{body}")
+}
+
 fn nodes_text() -> String {
     let mut body = String::with_capacity(SIZE);
     let mut count = 0;
     for i in 0..4_000_000 {
-        if body.len() >= SIZE - 200 {
+        if body.len() >= SIZE {
             break;
         }
         let width = i % 37 + 1;
@@ -352,7 +492,7 @@ fn places_text(decimals: bool) -> String {
     let mut text = String::with_capacity(SIZE);
     text.push_str("UCLA pl 1.0\n\n");
     for i in 0..4_000_000 {
-        if text.len() >= SIZE - 200 {
+        if text.len() >= SIZE {
             break;
         }
         let x = i % 90_001;
@@ -366,20 +506,20 @@ fn places_text(decimals: bool) -> String {
     text
 }
 
+/// Prints how many records there are, and how long the reading took.
+fn tell(what: &str, count: usize, start: Instant) {
+    println!("{what} {count} records {} us", start.elapsed().as_micros());
+}
+
 fn main() {
     let nodes = nodes_text();
+    let nets = nets_text();
     let places = places_text(false);
     let decimals = places_text(true);
     for _ in 0..5 {
         let start = Instant::now();
         let lines = read_nodes(nodes.as_bytes()).expect("a good text");
-        let time = start.elapsed();
-        println!(
-            "nodes {} bytes {} lines {} us",
-            nodes.len(),
-            lines.len(),
-            time.as_micros()
-        );
+        tell("nodes", lines.len(), start);
         black_box(
             lines
                 .iter()
@@ -388,16 +528,28 @@ fn main() {
                 })
                 .fold(0, u64::wrapping_add),
         );
+        drop(lines);
+        let start = Instant::now();
+        let blocks = read_nets(nets.as_bytes()).expect("a good text");
+        tell("nets", blocks.len(), start);
+        black_box(
+            blocks
+                .iter()
+                .flat_map(|n| {
+                    n.pins.iter().map(move |p| {
+                        p.line
+                            + p.node.len() as u64
+                            + (p.dx + p.dy) as u64
+                            + n.name.map_or(0, <[u8]>::len) as u64
+                    })
+                })
+                .fold(0, u64::wrapping_add),
+        );
+        drop(blocks);
         for (what, text) in [("pl", &places), ("pl decimals", &decimals)] {
             let start = Instant::now();
             let lines = read_pl(text.as_bytes()).expect("a good text");
-            let time = start.elapsed();
-            println!(
-                "{what} {} bytes {} lines {} us",
-                text.len(),
-                lines.len(),
-                time.as_micros()
-            );
+            tell(what, lines.len(), start);
             black_box(
                 lines
                     .iter()

@@ -5,8 +5,8 @@ use Rattle.book_files.specs.declared.fault.TextKind.{TextKind}
 use Rattle.book_files.specs.declared.fault.TextFault.{TextFault}
 use Rattle.book_files.specs.declared.fault.ReadError.{ReadError}
 use Rattle.book_files.specs.declared.fault.ReadError.TheVariants.{Fault, Memory}
-use Rattle.book_files.specs.Form.{Form, Mean, Reads, FaultAtLine, FaultAtEnd, FirstFault, Answers as FormAnswers}
-use Rattle.book_files.specs.Grammar.{Grammar, AreItems, IsReading, IsFaultAtLine, IsFaultAtEnd, IsFirstFault, Answers, HasOneAnswer}
+use Rattle.book_files.specs.Form.{Form, Mean, Reads, FirstFault, FormAnswers}
+use Rattle.book_files.specs.Grammar.{Grammar, AreItems, IsReading, IsFirstFault, Answers, HasOneAnswer}
 use Rattle.book_files.proofs.Readings.{has_one_answer}
 
 -- What the form says of one line and of the end is what the rules say, both ways.

@@ -1,61 +1,72 @@
--- The nodes that a text reads as are few, with sizes in range.
-use Rattle.std.proofs.Common.{◌≡◌, ℕ, ◌≤◌, ◌==◌, Bool, false, true, if◌then◌else◌, List, [], ◌∷◌, length, is_some, Option, Some, None, Result, Ok, Err, IfOk, codes}
+-- The nodes that a text reads as are few, with names that are words and sizes in range.
+use Rattle.std.proofs.Common.{◌≡◌, ℕ, ◌≤◌, Bool, false, true, not, IsTrue, IsFalse, slice_index_or, List, [], ◌∷◌, length, is_some, Result, Ok, Err, IfOk, codes, refl}
 use Rattle.std.specs.Option.{IfSome}
-use Rattle.std.specs.List.{filter_map}
-use Rattle.std.proofs.lemmas.Bool.{cond_both}
-use Rattle.book_text.specs.Lines.{NumberedLine}
+use Rattle.std.specs.List.{All, AllByRecursion, filter_map}
+use Rattle.std.proofs.lemmas.List.Elements.{recursion_from_All, filter_passes}
+use Rattle.book_text.specs.Lines.{NumberedLine, IsWord, is_comment_word, has_content, lines_of, numbered_from, content_of}
 use Rattle.book_files.specs.declared.fault.TextKind.{TextKind}
-use Rattle.book_files.specs.declared.fault.TextKind.TheVariants.{BadHeader, BadLine, CountMismatch}
+use Rattle.book_files.specs.declared.fault.TextKind.TheVariants.{BadHeader, BadLine}
 use Rattle.book_files.specs.Words.{◌>>=◌, latest, is_header, is_keyed, is_keyword, count_of, size_of}
 use Rattle.book_files.specs.Entries.{NodeEntry}
-use Rattle.book_files.specs.Nodes.{NodeItem, header, total, terminals, node, node_in, total_in, terminals_in, sized, node_of, node_meaning, nodes_told, node_ending, node_form}
+use Rattle.book_files.specs.Nodes.{NodeItem, header, total, terminals, node, node_in, total_in, terminals_in, sized, node_of, node_meaning, node_ending, node_form}
 use Rattle.book_files.specs.Form.{Reads}
-use Rattle.book_files.specs.Laws.{IsSize, IsGoodNode, AreFew}
-use Rattle.book_files.proofs.FewRecords.{are_few}
-use Rattle.book_files.proofs.GoodRecords.{bind_good, size_good}
+use Rattle.book_files.specs.Ranges.{IsName, IsNodeInRange}
+use Rattle.book_files.proofs.FewRecords.{records_few, records_good}
+use Rattle.book_files.proofs.GoodRecords.{IsSizeInRange, bind_good, if_good, size_good}
+use Rattle.book_files.proofs.NodeDecides.{nodes_decided}
 
-abbrev IsGoodItem : List ℕ → NodeItem → Type 0
-IsGoodItem text item = IfSome (node_in item) (IsGoodNode text)
+-- the first word may stand for a node
+abbrev IsNamed : List (List ℕ) → Type 0
+IsNamed [] = Unit {0}
+IsNamed (word ∷ words) = IsName word
+
+plain : (b : Bool) → IsTrue (not b) → IsFalse b
+plain true is = cc
+plain false is = refl
+
+named : (words : List (List ℕ)) → All IsWord words → has_content words ≡ true → IsNamed words
+named [] each content = tt
+named (word ∷ words) each content = record { word = (recursion_from_All IsWord (word ∷ words) each).0; plain = plain (is_comment_word word) content }
+
+-- a line that isn't passed over begins with a word that begins no comment
+named_lines : (text : List ℕ) → All (λ (line : NumberedLine). All IsWord line.words) (content_of text) → AllByRecursion (λ line. IsNamed line.words) (content_of text)
+named_lines text found = recursion_from_All (λ line. IsNamed line.words) (content_of text) (λ k d within.
+    named (slice_index_or (content_of text) k d).words (found k d within) (filter_passes (λ line. has_content line.words) (numbered_from 1 (lines_of text)) k d within))
+
+abbrev IsGoodItem : NodeItem → Type 0
+IsGoodItem item = IfSome (node_in item) IsNodeInRange
 
 -- a count is no record
-count_good : (text : List ℕ) (r : Result ℕ TextKind) (item : ℕ → NodeItem) → ((n : ℕ) → IsGoodItem text (item n)) → IfOk (r >>= λ n. Ok (item n)) (IsGoodItem text)
-count_good text r item good = bind_good (λ n. Unit {0}) (IsGoodItem text) r (λ n. Ok (item n)) (any r) (λ n _. good n) where
-  any : (r : Result ℕ TextKind) → IfOk r (λ n. Unit {0})
-  any (Ok n) = tt
-  any (Err kind) = tt
+count_good : (r : Result ℕ TextKind) (item : ℕ → NodeItem) → ((n : ℕ) → IsGoodItem (item n)) → IfOk (r >>= λ n. Ok (item n)) IsGoodItem
+count_good (Ok n) item good = good n
+count_good (Err kind) item good = tt
 
-module _ (text : List ℕ) (number : ℕ) (within : number ≤ length text) where
-  sized_good : (name width height : List ℕ) (fixed : Bool) → IfOk (sized number name width height fixed) (IsGoodItem text)
-  sized_good name width height fixed = bind_good IsSize (IsGoodItem text) (size_of width) _ (size_good width) (λ w w_good.
-      bind_good IsSize (IsGoodItem text) (size_of height) (λ h. Ok (node (record { line = number; name = name; width = w; height = h; fixed = fixed }))) (size_good height)
-      (λ h h_good. (w_good, h_good, within)))
+sized_good : (number : ℕ) (name width height : List ℕ) (fixed : Bool) → IsName name → IfOk (sized number name width height fixed) IsGoodItem
+sized_good number name width height fixed named = bind_good IsSizeInRange IsGoodItem (size_of width) _ (size_good width) (λ w w_good.
+    bind_good IsSizeInRange IsGoodItem (size_of height) (λ h. Ok (node (record { line = number; name = name; width = w; height = h; fixed = fixed }))) (size_good height)
+    (λ h h_good. record { name = named; width = w_good.range; height = h_good.range; width_sign = w_good.sign; height_sign = h_good.sign }))
 
-  line_good : (words : List (List ℕ)) → IfOk (node_of number words) (IsGoodItem text)
-  line_good (name ∷ width ∷ height ∷ []) = sized_good name width height false
-  line_good (name ∷ width ∷ height ∷ mark ∷ []) = cond_both (is_keyword (codes "terminal") mark) (sized number name width height true) (Err BadLine) (λ r. IfOk r (IsGoodItem text)) (λ _. sized_good name width height true) (λ _. tt)
-  line_good [] = tt
-  line_good (name ∷ []) = tt
-  line_good (name ∷ width ∷ []) = tt
-  line_good (name ∷ width ∷ height ∷ mark ∷ more ∷ rest) = tt
+line_good : (number : ℕ) (words : List (List ℕ)) → IsNamed words → IfOk (node_of number words) IsGoodItem
+line_good number (name ∷ width ∷ height ∷ []) named = sized_good number name width height false named
+line_good number (name ∷ width ∷ height ∷ mark ∷ []) named =
+    if_good IsGoodItem (is_keyword (codes "terminal") mark) (sized number name width height true) (Err BadLine) (sized_good number name width height true named) tt
+line_good number [] named = tt
+line_good number (name ∷ []) named = tt
+line_good number (name ∷ width ∷ []) named = tt
+line_good number (name ∷ width ∷ height ∷ mark ∷ more ∷ rest) named = tt
 
-meaning_good : (text : List ℕ) (before : List NodeItem) (line : NumberedLine) → line.number ≤ length text → IfOk (node_meaning before line) (IsGoodItem text)
-meaning_good text [] line within = cond_both (is_header (codes "nodes") line.words) (Ok header) (Err BadHeader) (λ r. IfOk r (IsGoodItem text)) (λ _. tt) (λ _. tt)
-meaning_good text (item ∷ items) line within = cond_both (is_keyed (codes "numnodes") line.words) _ _ (λ r. IfOk r (IsGoodItem text))
-    (λ _. count_good text (count_of (is_some (latest total_in (item ∷ items))) line.words) total (λ n. tt))
-    (λ _. cond_both (is_keyed (codes "numterminals") line.words) _ _ (λ r. IfOk r (IsGoodItem text))
-    (λ _. count_good text (count_of (is_some (latest terminals_in (item ∷ items))) line.words) terminals (λ n. tt))
-    (λ _. line_good text line.number within line.words))
+meaning_good : (before : List NodeItem) (line : NumberedLine) → IsNamed line.words → IfOk (node_meaning before line) IsGoodItem
+meaning_good [] line named = if_good IsGoodItem (is_header (codes "nodes") line.words) (Ok header) (Err BadHeader) tt tt
+meaning_good (item ∷ items) line named = if_good IsGoodItem (is_keyed (codes "numnodes") line.words) _ _
+    (count_good (count_of (is_some (latest total_in (item ∷ items))) line.words) total (λ n. tt))
+    (if_good IsGoodItem (is_keyed (codes "numterminals") line.words) _ _
+    (count_good (count_of (is_some (latest terminals_in (item ∷ items))) line.words) terminals (λ n. tt)) (line_good line.number line.words named))
 
-told_is : (told : Option ℕ) (found nodes : List NodeEntry) → nodes_told told found ≡ Ok nodes → nodes ≡ found
-told_is None found nodes ends = cc
-told_is (Some n) found nodes ends = equal (n == length found) ends where
-  equal : (b : Bool) → (if b then Ok found else Err (CountMismatch n (length found))) ≡ Ok nodes → nodes ≡ found
-  equal true ends = cc
-  equal false ends = cc
+ending_is : (nodes : List NodeEntry) (items : List NodeItem) → node_ending items ≡ Ok nodes → nodes ≡ filter_map node_in items
+ending_is nodes items ends = (nodes_decided.file items nodes ends).lines
 
-ending_is : (items : List NodeItem) (nodes : List NodeEntry) → node_ending items ≡ Ok nodes → nodes ≡ filter_map node_in items
-ending_is [] nodes ends = cc
-ending_is (item ∷ items) nodes ends = told_is (latest total_in (item ∷ items)) (filter_map node_in (item ∷ items)) nodes ends
+pub nodes_few : (text : List ℕ) (nodes : List NodeEntry) → Reads node_form text nodes → length nodes ≤ length text
+nodes_few text nodes reads = records_few node_form node_in text nodes (ending_is nodes) reads
 
-pub nodes_are_few : (text : List ℕ) (nodes : List NodeEntry) → Reads node_form text nodes → AreFew (IsGoodNode text) text nodes
-nodes_are_few text nodes reads = are_few node_form node_in (IsGoodNode text) text nodes (λ items ends. ending_is items nodes ends) (meaning_good text) reads
+pub nodes_good : (text : List ℕ) (nodes : List NodeEntry) → All (λ (line : NumberedLine). All IsWord line.words) (content_of text) → Reads node_form text nodes → AllByRecursion IsNodeInRange nodes
+nodes_good text nodes found reads = records_good node_form node_in text nodes (ending_is nodes) reads (λ line. IsNamed line.words) IsNodeInRange (named_lines text found) meaning_good

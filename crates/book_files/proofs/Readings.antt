@@ -5,7 +5,13 @@ use Rattle.book_text.specs.Lines.{NumberedLine, content_of, end_line}
 use Rattle.book_files.specs.declared.fault.TextKind.{TextKind}
 use Rattle.book_files.specs.declared.fault.TextFault.{TextFault}
 use Rattle.book_files.specs.Form.{Form, Mean, Reads, FirstFault, FaultAtLine}
-use Rattle.book_files.specs.Laws.{HasOneAnswer}
+
+-- The text reads as some records or has a first fault, never both, and there is one value only.
+pub record HasOneAnswer {I R : Type 0} (form : Form I R) (text : List ℕ) : Type 0 where
+  pub some : ((records : R) × Reads form text records) ⊎ ((fault : TextFault) × FirstFault form text fault)
+  pub one_reading : (a b : R) → Reads form text a → Reads form text b → a ≡ b
+  pub one_fault : (a b : TextFault) → FirstFault form text a → FirstFault form text b → a ≡ b
+  pub not_both : (records : R) (fault : TextFault) → Reads form text records → FirstFault form text fault → ⊥
 
 abbrev Outcome : Type 0 → Type 0
 Outcome I = Result (List I) (NumberedLine × TextKind)

@@ -1,13 +1,12 @@
 -- The numbers of a rows file are in range.
-use Rattle.std.proofs.Common.{◌≡◌, ℕ, ◌^◌, ◌≤◌, Bool, true, false, if◌then◌else◌, List, [], ◌∷◌, ◌++◌, cond, nat_le, pos, neg_ℤ, int_lt, ◌<ℤ◌, ℤ, Option, Some, None, Result, Ok, Err, IfOk, refl, subst, arith}
+use Rattle.std.proofs.Common.{◌≡◌, ℕ, ◌^◌, ◌≤◌, Bool, true, false, List, [], ◌∷◌, ◌++◌, cond, nat_le, pos, int_lt, ◌<ℤ◌, ℤ, Option, Some, None, Result, Ok, Err, IfOk, refl, arith}
 use Rattle.std.specs.Option.{IfSome}
 use Rattle.std.specs.List.{AllByRecursion}
 use Rattle.std.proofs.lemmas.Bool.{cond_both, leb-true}
 use Rattle.std.proofs.lemmas.Int.{ints}
 use Rattle.book_text.specs.declared.number.NumberFault.TheVariants.{NotNumber, OutOfRange}
-use Rattle.book_text.specs.Decimal.{micro_size, is_number}
 use Rattle.book_text.specs.Whole.{is_whole}
-use Rattle.std.specs.Str.Parse.{starts_with_minus, digits_value}
+use Rattle.std.specs.Str.Parse.{digits_value}
 use Rattle.book_files.specs.declared.fault.TextKind.{TextKind}
 use Rattle.book_files.specs.declared.fault.TextKind.TheVariants.{BadLine, BadNumber}
 use Rattle.book_files.specs.declared.row_lines.PartKey.{PartKey}
@@ -17,26 +16,8 @@ use Rattle.book_files.specs.Entries.{SubrowEntry, RowEntry}
 use Rattle.book_files.specs.Ranges.{IsInRange, IsSubrowInRange, IsRowInRange}
 use Rattle.book_files.specs.Rows.{RowPart, coordinate, height, site_width, site_spacing, site_orient, site_symmetry, subrow, ended, end_in, BlockTold, told_with, above_zero, positive_of, once_by, is_subrow, subrow_at, subrow_of, key_of, by_key, inner_of, pitch_in, closed, row_of}
 use Rattle.book_files.specs.RowProgress.{IsPositiveInRange, IsPartInRange, IsToldInRange}
-
-bind_all : {A B : Type 0} (P : A → Type 0) (Q : B → Type 0) (r : Result A TextKind) (f : A → Result B TextKind) → IfOk r P → ((x : A) → P x → IfOk (f x) Q) → IfOk (r >>= f) Q
-bind_all P Q (Ok x) f good each = each x good
-bind_all P Q (Err kind) f good each = tt
-
-at_ok : {A : Type 0} (P : A → Type 0) (r : Result A TextKind) (x : A) → r ≡ Ok x → IfOk r P → P x
-at_ok P r x is good = subst (λ s. IfOk s P) is good
-
-size_range : (minus : Bool) (size : ℕ) → size ≤ 10 ^ 12 → IsInRange (cond minus (neg_ℤ (pos size)) (pos size))
-size_range true size fits = record { low = omega (arith, ints); high = omega (arith, ints) }
-size_range false size fits = record { low = omega (arith, ints); high = omega (arith, ints) }
-
-micro_range : (form minus : Bool) (size : ℕ)
-    → IfOk (number_of_result (cond form (cond (nat_le size (10 ^ 12)) (Ok (cond minus (neg_ℤ (pos size)) (pos size))) (Err OutOfRange)) (Err NotNumber))) IsInRange
-micro_range false minus size = tt
-micro_range true minus size = cond_both (nat_le size (10 ^ 12)) (Ok (cond minus (neg_ℤ (pos size)) (pos size))) (Err OutOfRange) (λ r. IfOk (number_of_result r) IsInRange)
-    (λ fits. size_range minus size (leb-true size (10 ^ 12) fits)) (λ _. tt)
-
-number_range : (word : List ℕ) → IfOk (number_of word) IsInRange
-number_range word = micro_range (is_number word) (starts_with_minus word) (micro_size word)
+use Rattle.book_files.proofs.FewRecords.{at_ok}
+use Rattle.book_files.proofs.GoodRecords.{bind_good, if_good, number_good}
 
 digits_range : (form : Bool) (value : ℕ) → IfOk (number_of_result (cond form (cond (nat_le value (2 ^ 40)) (Ok value) (Err OutOfRange)) (Err NotNumber))) (λ n. n ≤ 2 ^ 40)
 digits_range false value = tt
@@ -46,30 +27,22 @@ whole_range : (word : List ℕ) → IfOk (whole_of word) (λ n. n ≤ 2 ^ 40)
 whole_range word = digits_range (is_whole word) (digits_value 10 word)
 
 positive_range : (word : List ℕ) → IfOk (positive_of word) IsPositiveInRange
-positive_range word = bind_all IsInRange IsPositiveInRange (number_of word) above_zero (number_range word) (λ value in_range.
+positive_range word = bind_good IsInRange IsPositiveInRange (number_of word) above_zero (number_good word) (λ value in_range.
     cond_both (int_lt (pos 0) value) (Ok value) (Err BadNumber) (λ r. IfOk r IsPositiveInRange) (λ above. record { range = in_range; sign = grind (arith, ints) }) (λ _. tt))
-
-if_all : {A : Type 0} (P : A → Type 0) (b : Bool) (r : Result A TextKind) → IfOk r P → IfOk (if b then r else Err BadLine) P
-if_all P true r good = good
-if_all P false r good = tt
-
-unless_all : {A : Type 0} (P : A → Type 0) (b : Bool) (r : Result A TextKind) → IfOk r P → IfOk (if b then Err BadLine else r) P
-unless_all P true r good = tt
-unless_all P false r good = good
 
 once_range : {A : Type 0} (P : A → Type 0) (value : List ℕ → Result A TextKind) (told : Bool) → ((word : List ℕ) → IfOk (value word) P) → (words : List (List ℕ)) → IfOk (once_by value told words) P
 once_range P value told each [] = tt
 once_range P value told each (key ∷ []) = tt
 once_range P value told each (key ∷ colon ∷ []) = tt
-once_range P value told each (key ∷ colon ∷ word ∷ []) = unless_all P told (value word) (each word)
+once_range P value told each (key ∷ colon ∷ word ∷ []) = if_good P told (Err BadLine) (value word) tt (each word)
 once_range P value told each (key ∷ colon ∷ word ∷ more ∷ rest) = tt
 
 at_range : (x n : List ℕ) → IfOk (subrow_at x n) IsSubrowInRange
-at_range x n = bind_all IsInRange IsSubrowInRange (number_of x) _ (number_range x) (λ at at_range.
-    bind_all (λ sites. sites ≤ 2 ^ 40) IsSubrowInRange (whole_of n) (λ sites. Ok (record { x = at; sites = sites })) (whole_range n) (λ sites few. record { x = at_range; sites = few }))
+at_range x n = bind_good IsInRange IsSubrowInRange (number_of x) _ (number_good x) (λ at at_range.
+    bind_good (λ sites. sites ≤ 2 ^ 40) IsSubrowInRange (whole_of n) (λ sites. Ok (record { x = at; sites = sites })) (whole_range n) (λ sites few. record { x = at_range; sites = few }))
 
 subrow_range : (words : List (List ℕ)) → IfOk (subrow_of words) IsSubrowInRange
-subrow_range (key ∷ colon ∷ x ∷ many ∷ again ∷ n ∷ []) = if_all IsSubrowInRange (is_subrow many again) (subrow_at x n) (at_range x n)
+subrow_range (key ∷ colon ∷ x ∷ many ∷ again ∷ n ∷ []) = if_good IsSubrowInRange (is_subrow many again) (subrow_at x n) (Err BadLine) (at_range x n) tt
 subrow_range [] = tt
 subrow_range (key ∷ []) = tt
 subrow_range (key ∷ colon ∷ []) = tt
@@ -82,13 +55,13 @@ abbrev IsInner : RowPart → Type 0
 IsInner p = IsPartInRange p × (end_in p ≡ None)
 
 inner_all : (t : BlockTold) (key : Option PartKey) (words : List (List ℕ)) → IfOk (by_key t key words) IsInner
-inner_all t (Some Coordinate) words = bind_all IsInRange IsInner _ (λ y. Ok (coordinate y)) (once_range IsInRange number_of _ number_range words) (λ y good. (good, refl))
-inner_all t (Some Height) words = bind_all IsPositiveInRange IsInner _ (λ h. Ok (height h)) (once_range IsPositiveInRange positive_of _ positive_range words) (λ h good. (good, refl))
-inner_all t (Some SiteWidth) words = bind_all IsPositiveInRange IsInner _ (λ w. Ok (site_width w)) (once_range IsPositiveInRange positive_of _ positive_range words) (λ w good. (good, refl))
-inner_all t (Some SiteSpacing) words = bind_all IsPositiveInRange IsInner _ (λ s. Ok (site_spacing s)) (once_range IsPositiveInRange positive_of _ positive_range words) (λ s good. (good, refl))
-inner_all t (Some SiteOrient) words = unless_all IsInner t.oriented (Ok site_orient) (tt, refl)
-inner_all t (Some SiteSymmetry) words = unless_all IsInner t.symmetric (Ok site_symmetry) (tt, refl)
-inner_all t (Some Subrow) words = bind_all IsSubrowInRange IsInner _ (λ entry. Ok (subrow entry)) (subrow_range words) (λ entry good. (good, refl))
+inner_all t (Some Coordinate) words = bind_good IsInRange IsInner _ (λ y. Ok (coordinate y)) (once_range IsInRange number_of _ number_good words) (λ y good. (good, refl))
+inner_all t (Some Height) words = bind_good IsPositiveInRange IsInner _ (λ h. Ok (height h)) (once_range IsPositiveInRange positive_of _ positive_range words) (λ h good. (good, refl))
+inner_all t (Some SiteWidth) words = bind_good IsPositiveInRange IsInner _ (λ w. Ok (site_width w)) (once_range IsPositiveInRange positive_of _ positive_range words) (λ w good. (good, refl))
+inner_all t (Some SiteSpacing) words = bind_good IsPositiveInRange IsInner _ (λ s. Ok (site_spacing s)) (once_range IsPositiveInRange positive_of _ positive_range words) (λ s good. (good, refl))
+inner_all t (Some SiteOrient) words = if_good IsInner t.oriented (Err BadLine) (Ok site_orient) tt (tt, refl)
+inner_all t (Some SiteSymmetry) words = if_good IsInner t.symmetric (Err BadLine) (Ok site_symmetry) tt (tt, refl)
+inner_all t (Some Subrow) words = bind_good IsSubrowInRange IsInner _ (λ entry. Ok (subrow entry)) (subrow_range words) (λ entry good. (good, refl))
 inner_all t None words = tt
 
 -- a line within a block has numbers in range, and isn't the block's end

@@ -83,7 +83,7 @@ meaning_begun [] line some = cc
 meaning_begun (item ∷ items) line some = refl
 
 -- the open block's lines
-open_is : (items : List RowItem) (block : BlockSoFar) (rows : List RowBlock) (has_open : HasOpen block (blocks_in items) rows) → open_block items ≡ Some has_open.parts
+pub open_is : (items : List RowItem) (block : BlockSoFar) (rows : List RowBlock) (has_open : HasOpen block (blocks_in items) rows) → open_block items ≡ Some has_open.parts
 open_is items block rows has_open = ap (λ groups. open_in (last_of groups)) has_open.split ∙ (ap open_in (last_of-push has_open.before (block_of has_open.parts)) ∙ cond-false _ _ _ has_open.goes_on)
 
 module _ (line : NumberedLine) (old : RowsSoFar) where

@@ -49,7 +49,7 @@ abbrev pub FirstFault : {I R : Type 0} → Form I R → List ℕ → TextFault �
 FirstFault form text fault = FaultAtLine form text fault ⊎ FaultAtEnd form text fault
 
 -- The answer, seen by view, is what the text reads as, or exactly its first fault. Want of memory may come at any time.
-abbrev pub Answers : {A I R : Type 0} → Form I R → (A → R) → List ℕ → Result A ReadError → Type 0
-Answers form view text (Ok answer) = Reads form text (view answer)
-Answers form view text (Err (Fault fault)) = FirstFault form text fault
-Answers form view text (Err Memory) = Unit {0}
+abbrev pub FormAnswers : {A I R : Type 0} → Form I R → (A → R) → List ℕ → Result A ReadError → Type 0
+FormAnswers form view text (Ok answer) = Reads form text (view answer)
+FormAnswers form view text (Err (Fault fault)) = FirstFault form text fault
+FormAnswers form view text (Err Memory) = Unit {0}

@@ -21,7 +21,7 @@ AreItems grammar before [] (item ∷ items) = ⊥
 AreItems grammar before (line ∷ lines) [] = ⊥
 AreItems grammar before (line ∷ lines) (item ∷ items) = grammar.IsItem before line item × AreItems grammar (before ++ item ∷ []) lines items
 
--- the text reads as these records: each of its lines is an item, and the items make the records
+-- the text reads as these records: each of its lines that isn't passed over is an item, and the items make the records
 pub record IsReading {I R : Type 0} (grammar : Grammar I R) (text : List ℕ) (records : R) : Type 0 where
   pub items : List I
   pub each : AreItems grammar [] (content_of text) items
@@ -45,7 +45,8 @@ pub record IsFaultAtEnd {I R : Type 0} (grammar : Grammar I R) (text : List ℕ)
   pub named : grammar.IsEndFault items fault.kind
   pub number : fault.line ≡ end_line text
 
--- the fault stands at the least line at which one is named, and is the first that is named there
+-- The fault stands at the least line at which one is named, and is the first that is named there: each line before it is an
+-- item, and a line that is an item names no fault (`least` of `HasOneAnswer`).
 abbrev pub IsFirstFault : {I R : Type 0} → Grammar I R → List ℕ → TextFault → Type 0
 IsFirstFault grammar text fault = IsFaultAtLine grammar text fault ⊎ IsFaultAtEnd grammar text fault
 

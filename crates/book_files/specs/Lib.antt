@@ -17,7 +17,6 @@ pub mod Places
 pub mod PlaceRules
 pub mod Rows
 pub mod RowRules
-pub mod Laws
 pub mod Ranges
 pub mod PlaceText
 pub mod Loading

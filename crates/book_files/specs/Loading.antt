@@ -1,8 +1,9 @@
 -- What the load of a file answers.
-use Rattle.std.specs.Prelude.{◌≡◌, ℕ, ◌<◌, ◌≤◌, ◌^◌, ◌-◌, List, length, Some, Result, Err, IsErrOf}
+use Rattle.std.specs.Prelude.{◌≡◌, ℕ, ◌<◌, ◌≤◌, ◌^◌, ◌-◌, List, length, Option, Some, None, Result, Ok, Err, IsErrOf}
 use Rattle.book_outer.specs.declared.trouble.Trouble.{Trouble}
 use Rattle.book_outer.specs.declared.trouble.Trouble.TheVariants as trouble
 use Rattle.book_outer.specs.Cause.{Rose}
+use Rattle.book_outer.specs.Folder.{Reading}
 use Rattle.book_outer.specs.Files.{FileEntry, content}
 use Rattle.book_files.specs.declared.loading.LoadError.{LoadError}
 use Rattle.book_files.specs.declared.loading.LoadError.TheVariants.{ReadFault, TooLong, Memory}
@@ -28,3 +29,11 @@ pub record HasReadCause {T : Type 0} (before now : ℕ) (result : Result T LoadE
   pub failed : IsErrOf result ReadFault → Rose before now
   pub kept : (IsErrOf result ReadFault → ⊥) → now ≡ before
   pub bounded : before ≤ 2 ^ 64 - 1 → now ≤ 2 ^ 64 - 1
+
+-- What was taken of the file, where the files are told: at Ok the bytes that are answered, and at TooLong more bytes than a file may have.
+abbrev pub HasTaken : {T : Type 0} → (T → ℕ) → Option (List FileEntry) → List ℕ → Result T LoadError → Option Reading → Type 0
+HasTaken size None name result reading = Unit {0}
+HasTaken size (Some files) name (Ok bytes) reading = reading ≡ Some (record { name = name; place = size bytes })
+HasTaken size (Some files) name (Err TooLong) reading = (place : ℕ) × (reading ≡ Some (record { name = name; place = place })) × (most_bytes < place)
+HasTaken size (Some files) name (Err ReadFault) reading = Unit {0}
+HasTaken size (Some files) name (Err Memory) reading = Unit {0}

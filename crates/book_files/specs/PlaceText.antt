@@ -1,16 +1,11 @@
 -- The text of a placement.
-use Rattle.std.specs.Prelude.{ℕ, ◌+◌, Bool, true, false, List, [], ◌∷◌, ◌++◌, flat_map, codes, IsFalse}
-use Rattle.book_text.specs.Lines.{IsWord, spaced, is_comment_word}
+use Rattle.std.specs.Prelude.{ℕ, ◌+◌, Bool, true, false, List, [], ◌∷◌, ◌++◌, flat_map, codes}
+use Rattle.book_text.specs.Lines.{spaced}
 use Rattle.book_text.specs.Decimal.{canonical}
 use Rattle.book_files.specs.declared.orient.Orient.{Orient}
 use Rattle.book_files.specs.declared.orient.Orient.TheVariants.{N, S, E, W, FN, FS, FE, FW}
 use Rattle.book_files.specs.Entries.{PlaceEntry}
-use Rattle.book_files.specs.Ranges.{IsPlaceInRange}
-
--- a word that may stand for a node at a line's start: one that begins no comment
-pub record IsName (name : List ℕ) : Type 0 where
-  pub word : IsWord name
-  pub plain : IsFalse (is_comment_word name)
+use Rattle.book_files.specs.Ranges.{IsName, IsPlaceInRange}
 
 abbrev pub orient_word : Orient → List ℕ
 orient_word N = codes "N"

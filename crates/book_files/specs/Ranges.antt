@@ -1,6 +1,7 @@
--- The ranges of the numbers that the records of a file have.
-use Rattle.std.specs.Prelude.{◌^◌, ◌≤◌, ℕ, List, map, length, ℤ, pos, neg_ℤ, ◌≤ℤ◌, ◌<ℤ◌}
+-- What holds of the records of a file: the ranges of their numbers, and that the name of a node is a word that begins no comment.
+use Rattle.std.specs.Prelude.{◌^◌, ◌≤◌, ℕ, List, map, length, ℤ, pos, neg_ℤ, ◌≤ℤ◌, ◌<ℤ◌, IsFalse}
 use Rattle.std.specs.List.{AllByRecursion, sum_by}
+use Rattle.book_text.specs.Lines.{IsWord, is_comment_word}
 use Rattle.book_files.specs.Entries.{NodeEntry, WeightEntry, PlaceEntry, PinEntry, NetEntry, SubrowEntry, RowEntry}
 
 -- from -1,000,000 to 1,000,000 units, in millionths
@@ -8,7 +9,13 @@ pub record IsInRange (value : ℤ) : Type 0 where
   pub low : neg_ℤ (pos (10 ^ 12)) ≤ℤ value
   pub high : value ≤ℤ pos (10 ^ 12)
 
+-- a word that may stand for a node at a line's start: one that begins no comment
+pub record IsName (name : List ℕ) : Type 0 where
+  pub word : IsWord name
+  pub plain : IsFalse (is_comment_word name)
+
 pub record IsNodeInRange (node : NodeEntry) : Type 0 where
+  pub name : IsName node.name
   pub width : IsInRange node.width
   pub height : IsInRange node.height
   pub width_sign : pos 0 ≤ℤ node.width

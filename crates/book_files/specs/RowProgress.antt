@@ -97,9 +97,10 @@ pub record IsRowsSoFar (items : List RowItem) (so_far : RowsSoFar) : Type 0 wher
   pub blocks : AreBlocks so_far.current (blocks_in items) so_far.blocks.items
   pub ranges : AllByRecursion IsRowInRange (row_entries so_far.blocks.items)
 
+abbrev pub total_fault : Option ℕ → List RowBlock → Option TextKind
+total_fault None rows = Some BadLine
+total_fault (Some n) rows = if n == length rows then None else Some (CountMismatch n (length rows))
+
 -- the fault where no line follows, if there is one
 abbrev pub rows_end_fault : RowsSoFar → Option TextKind
-rows_end_fault so_far = if so_far.begun then (if is_some so_far.current then Some BadLine else told_fault so_far.total so_far.blocks.items) else Some BadHeader where
-  told_fault : Option ℕ → List RowBlock → Option TextKind
-  told_fault None rows = Some BadLine
-  told_fault (Some n) rows = if n == length rows then None else Some (CountMismatch n (length rows))
+rows_end_fault so_far = if so_far.begun then (if is_some so_far.current then Some BadLine else total_fault so_far.total so_far.blocks.items) else Some BadHeader

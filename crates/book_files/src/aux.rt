@@ -5,7 +5,7 @@ ghost use Rattle.std.specs.Char.{to_ascii_lowercase};
 ghost use Rattle.book_files.specs.Grammar.{Answers};
 ghost use Rattle.book_files.specs.AuxRules.{aux_grammar};
 ghost use Rattle.book_files.specs.Progress.{Gives};
-ghost use Rattle.book_files.specs.Aux.{aux_form, aux_meaning, has_suffix, is_file_name, named, names_of, aux_by_suffix, only, at_most_one};
+ghost use Rattle.book_files.specs.Aux.{aux_meaning, has_suffix, is_file_name, named, names_of, aux_by_suffix, only, at_most_one};
 ghost use Rattle.book_files.specs.Entries.{aux_entry};
 
 use crate::fault::{LineError, ReadError, TextKind, fault_at_end};

@@ -43,4 +43,6 @@ pub use text::{placement_reads_back, write_pl};
 pub use weights::{WeightFile, read_wts};
 
 #[cfg(test)]
+mod outside_tests;
+#[cfg(test)]
 mod tests;

@@ -4,7 +4,7 @@ ghost use Rattle.std.specs.Prelude.{◌≡◌, ◌≤◌, Some, Err, IfOk, IfSom
 ghost use Rattle.book_outer.specs.Cause.{one_more};
 ghost use Rattle.book_outer.specs.Files.{content};
 ghost use Rattle.book_outer.specs.Folder.{missed_after};
-ghost use Rattle.book_files.specs.Loading.{most_bytes, error_of, HasLongText, HasReadCause};
+ghost use Rattle.book_files.specs.Loading.{most_bytes, error_of, HasLongText, HasReadCause, HasTaken};
 ghost use Rattle.book_files.specs.declared.loading.LoadError.TheVariants.{Memory};
 
 use book_outer::{Folder, Trouble};
@@ -53,7 +53,7 @@ fn room(alloc: Global, count: usize) -> Result<Vec<u8>, AllocError>
     vec![in alloc; 0; count]
 }
 
-/// The bytes of the whole file, read in pieces, of which there are at most 268,435,456.
+/// The whole file, of at most 268,435,456 bytes, read in pieces.
 ///
 /// Whatever it answers, the folder's files are unchanged. A read fault is answered only where the folder counted one, and
 /// `TooLong` where more bytes than that were taken.
@@ -61,6 +61,7 @@ pub fn load<F: Folder>(alloc: Global, folder: &mut F, name: &str) -> Result<Vec<
     ensures loaded { IfOk result (λ bytes. IfSome (F.files folder.old) (λ files. content files name.now ≡ Some bytes.items)) }
     ensures within { IfOk result (λ bytes. vec_len bytes ≤ most_bytes) }
     ensures too_long { result ≡ Err LoadError.TooLong → IfSome (F.files folder.old) (λ files. HasLongText files name.now) }
+    ensures taken { HasTaken (λ bytes. vec_len bytes) (F.files folder.old) name.now result (F.reading folder.new) }
     ensures cause { HasReadCause (F.read_faults folder.old) (F.read_faults folder.new) result }
     ensures begun { F.begun folder.new ≡ one_more (F.begun folder.old) }
     ensures missed { F.missed folder.new ≡ missed_after (F.files folder.old) name.now (F.missed folder.old) }

@@ -4,7 +4,7 @@ ghost use Rattle.book_files.specs.Ranges.{IsNodeInRange};
 ghost use Rattle.book_files.specs.Grammar.{Answers};
 ghost use Rattle.book_files.specs.NodeRules.{nodes_grammar};
 ghost use Rattle.book_files.specs.Progress.{Gives};
-ghost use Rattle.book_files.specs.Nodes.{node_form, node, sized, node_of};
+ghost use Rattle.book_files.specs.Nodes.{node, sized, node_of};
 ghost use Rattle.book_files.specs.Entries.{node_entry, node_entries};
 
 use crate::fault::{LineError, ReadError, TextKind, fault_at_end};
@@ -12,6 +12,7 @@ use crate::name::Name;
 use crate::records::NodeLine;
 use crate::walk::{Progress, keep_lines};
 use crate::words::{count_of, is_header, is_keyed, is_keyword, size_of};
+use book_text::spaced_words;
 use std::alloc::Global;
 use std::marker::Model;
 
@@ -56,6 +57,7 @@ pub fn read_nodes(alloc: Global, bytes: &[u8]) -> Result<NodeFile<'_>, ReadError
         lines: Vec::new(alloc),
     };
     keep_lines(alloc, bytes, &mut so_far)?;
+    spaced_words();
     match so_far.fault() {
         None => Ok(NodeFile {
             lines: so_far.lines,

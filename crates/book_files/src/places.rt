@@ -4,7 +4,7 @@ ghost use Rattle.book_files.specs.Ranges.{IsPlaceInRange};
 ghost use Rattle.book_files.specs.Grammar.{Answers};
 ghost use Rattle.book_files.specs.PlaceRules.{places_grammar};
 ghost use Rattle.book_files.specs.Progress.{Gives};
-ghost use Rattle.book_files.specs.Places.{place_form, placed, is_fixed_mark, orient_of, placed_at, turned, place_of};
+ghost use Rattle.book_files.specs.Places.{placed, is_fixed_mark, orient_of, placed_at, turned, place_of};
 ghost use Rattle.book_files.specs.Entries.{place_entry, place_entries};
 
 use crate::fault::{LineError, ReadError, TextKind, fault_at_end};

@@ -4,7 +4,7 @@ ghost use Rattle.book_files.specs.Ranges.{IsWeightInRange};
 ghost use Rattle.book_files.specs.Grammar.{Answers};
 ghost use Rattle.book_files.specs.WeightRules.{weights_grammar};
 ghost use Rattle.book_files.specs.Progress.{Gives};
-ghost use Rattle.book_files.specs.Weights.{weight_form, weighed, weight_of};
+ghost use Rattle.book_files.specs.Weights.{weighed, weight_of};
 ghost use Rattle.book_files.specs.Entries.{weight_entry, weight_entries};
 
 use crate::fault::{LineError, ReadError, TextKind, fault_at_end};
