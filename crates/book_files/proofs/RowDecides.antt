@@ -432,10 +432,10 @@ module _ (item : RowItem) (before : List RowItem) (line : NumberedLine) where
   judged_outside : open_block (item ∷ before) ≡ None → Judged (outside_of (is_some (latest total_in (item ∷ before))) line.words)
   judged_outside none = cond_both (is_keyed (codes "numrows") line.words) (count_of (is_some (latest total_in (item ∷ before))) line.words >>= λ n. Ok (total n)) (if is_row_start line.words then Ok begun else Err BadLine) Judged
       (λ counted. judges_map (IsOnceShape (codes "numrows") total_in (item ∷ before) line.words) (HasWhole (word_at line.words 2)) (IsWhole (word_at line.words 2)) (HasRowsShape (item ∷ before) line.words) (HasRowsNumbers line.words)
-          (IsRowsItem (item ∷ before) line) total (count_of (is_some (latest total_in (item ∷ before))) line.words) (λ s. inl (none, inl s)) (back counted) (λ s n. counted_numbers line.words counted n) (λ s n. n.count counted)
-          (λ n s is. (λ e. cc, none, s, is)) (count_judged (codes "numrows") total_in (item ∷ before) line.words counted))
+      (IsRowsItem (item ∷ before) line) total (count_of (is_some (latest total_in (item ∷ before))) line.words) (λ s. inl (none, inl s)) (back counted) (λ s n. counted_numbers line.words counted n) (λ s n. n.count counted)
+      (λ n s is. (λ e. cc, none, s, is)) (count_judged (codes "numrows") total_in (item ∷ before) line.words counted))
       (λ other. cond_both (is_row_start line.words) (Ok begun) (Err BadLine) Judged
-          (λ starts. (inl (none, inr starts), no_numbers line.words (λ key. start_keyed key line.words starts), (λ e. cc, none, starts))) (no_line other)) where
+      (λ starts. (inl (none, inr starts), no_numbers line.words (λ key. start_keyed key line.words starts), (λ e. cc, none, starts))) (no_line other)) where
         back : is_keyed (codes "numrows") line.words ≡ true → HasRowsShape (item ∷ before) line.words → IsOnceShape (codes "numrows") total_in (item ∷ before) line.words
         back counted (inl (outside, inl shape)) = shape
         back counted (inl (outside, inr starts)) = let e = sym (keyed_start (codes "numrows") line.words counted) ∙ starts in cc

@@ -66,8 +66,13 @@ module _ (text : List ℕ) (so_far : RowsSoFar) (stands : StandsFor row_form IsR
 -- the subrows are among the lines of the blocks
 subrows_few : (blocks : List (Group (Unit {0}) RowPart)) → subrow_count (map entry_of_row blocks) ≤ sum_by (λ block. length block.parts) blocks
 subrows_few [] = omega arith
-subrows_few (block ∷ blocks) = omega (arith, subrows_few blocks, length-filter_map-le subrow_in block.parts, sum_by-cons (λ (row : RowEntry). length row.subrows) (entry_of_row block) (map entry_of_row blocks),
-    sum_by-cons (λ (b : Group (Unit {0}) RowPart). length b.parts) block blocks)
+subrows_few (block ∷ blocks) = omega (
+  arith,
+  subrows_few blocks,
+  length-filter_map-le subrow_in block.parts,
+  sum_by-cons (λ (row : RowEntry). length row.subrows) (entry_of_row block) (map entry_of_row blocks),
+  sum_by-cons (λ (b : Group (Unit {0}) RowPart). length b.parts) block blocks,
+)
 
 ending_rows : (items : List RowItem) (rows : List RowEntry) → row_ending items ≡ Ok rows → rows ≡ map entry_of_row (blocks_in items)
 ending_rows [] rows ends = cc
@@ -88,5 +93,5 @@ ending_rows (item ∷ items) rows ends = at (is_some (open_block (item ∷ items
 pub rows_few : (text : List ℕ) (rows : List RowEntry) → Reads row_form text rows → length rows + subrow_count rows ≤ length text
 rows_few text rows reads = let is = ending_rows reads.items rows reads.make in let blocks = blocks_in reads.items in
     let few : length (map entry_of_row blocks) + subrow_count (map entry_of_row blocks) ≤ length text =
-      omega (arith, subrows_few blocks, groups-few begun_in part_in reads.items, length-map blocks entry_of_row, length-mean row_form [] (content_of text) reads.items reads.mean, length-content_of-le text) in
+    omega (arith, subrows_few blocks, groups-few begun_in part_in reads.items, length-map blocks entry_of_row, length-mean row_form [] (content_of text) reads.items reads.mean, length-content_of-le text) in
     subst (λ rs. length rs + subrow_count rs ≤ length text) (sym is) few

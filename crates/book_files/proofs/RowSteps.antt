@@ -34,7 +34,7 @@ block_of parts = record { head = tt; parts = parts }
 
 same_told : (y y' h h' w w' s s' : Option ℤ) (o o' m m' : Bool) (subrows subrows' : List SubrowEntry) → y ≡ y' → h ≡ h' → w ≡ w' → s ≡ s' → o ≡ o' → m ≡ m' → subrows ≡ subrows'
     → ◌≡◌ {A = BlockTold} (record { y = y; height = h; width = w; spacing = s; oriented = o; symmetric = m; subrows = subrows })
-      (record { y = y'; height = h'; width = w'; spacing = s'; oriented = o'; symmetric = m'; subrows = subrows' })
+    (record { y = y'; height = h'; width = w'; spacing = s'; oriented = o'; symmetric = m'; subrows = subrows' })
 same_told y y' h h' w w' s s' o o' m m' subrows subrows' is_y is_h is_w is_s is_o is_m is_subrows = cc
 
 -- what a block has with one line more
@@ -173,14 +173,14 @@ module _ (line : NumberedLine) (old new : RowsSoFar) where
     grows : (items : List RowItem) → HasOpen block (blocks_in items) old.blocks.items → HasOpen grown (blocks_in (items ++ part has_part.part ∷ [])) old.blocks.items
     grows items blocks = let p = has_part.part in let inner = inner_range (block_told block) line.words p has_part.means in
         let more : told_by (blocks.parts ++ p ∷ []) ≡ told_with (told_by blocks.parts) p = told_more blocks.parts p in record {
-      before = blocks.before;
-      parts = blocks.parts ++ p ∷ [];
-      split = groups-part begun_in part_in items (part p) p blocks.before (block_of blocks.parts) refl refl blocks.split;
-      ended = blocks.ended;
-      told = has_part.more ∙ (ap (λ t. told_with t p) blocks.told ∙ sym more);
-      goes_on = ap is_some (latest-no end_in blocks.parts p inner.1) ∙ blocks.goes_on;
-      range = subst IsToldInRange (sym more) (told_range_more (told_by blocks.parts) p blocks.range inner.0);
-    }
+          before = blocks.before;
+          parts = blocks.parts ++ p ∷ [];
+          split = groups-part begun_in part_in items (part p) p blocks.before (block_of blocks.parts) refl refl blocks.split;
+          ended = blocks.ended;
+          told = has_part.more ∙ (ap (λ t. told_with t p) blocks.told ∙ sym more);
+          goes_on = ap is_some (latest-no end_in blocks.parts p inner.1) ∙ blocks.goes_on;
+          range = subst IsToldInRange (sym more) (told_range_more (told_by blocks.parts) p blocks.range inner.0);
+        }
 
   pub end_kept : (block : BlockSoFar) (row : RowBlock) → old.begun ≡ true → old.current ≡ Some block → is_row_end line.words ≡ true → row_of (block_told block) ≡ Ok (row_entry row)
       → new.begun ≡ true → new.total ≡ old.total → new.current ≡ None → new.blocks.items ≡ old.blocks.items ++ row ∷ []
@@ -203,11 +203,11 @@ module _ (line : NumberedLine) (old new : RowsSoFar) where
     ends : (items : List RowItem) → HasOpen block (blocks_in items) old.blocks.items → AreEnded (blocks_in (items ++ part ended ∷ [])) (old.blocks.items ++ row ∷ [])
     ends items blocks = let more = groups-part begun_in part_in items (part ended) ended blocks.before (block_of blocks.parts) refl refl blocks.split in
         let entry : row_entry row ≡ entry_of_row (block_of (blocks.parts ++ ended ∷ [])) = row_is blocks.parts (row_entry row) (makes_row items blocks) ∙ sym (entry_at_end blocks.parts) in record {
-      last = ap (λ groups. open_in (last_of groups)) more ∙ (ap open_in (last_of-push blocks.before (block_of (blocks.parts ++ ended ∷ [])))
-          ∙ cond-true _ _ _ (ap is_some (latest-yes end_in blocks.parts ended tt refl)));
-      ended = map-append row_entry old.blocks.items (row ∷ []) ∙ (ap (λ rows. rows ++ row_entry row ∷ []) blocks.ended ∙ (ap (λ e. map entry_of_row blocks.before ++ e ∷ []) entry
-          ∙ (sym (map-append entry_of_row blocks.before (block_of (blocks.parts ++ ended ∷ []) ∷ [])) ∙ ap (map entry_of_row) (sym more))));
-    }
+          last = ap (λ groups. open_in (last_of groups)) more ∙ (ap open_in (last_of-push blocks.before (block_of (blocks.parts ++ ended ∷ [])))
+              ∙ cond-true _ _ _ (ap is_some (latest-yes end_in blocks.parts ended tt refl)));
+          ended = map-append row_entry old.blocks.items (row ∷ []) ∙ (ap (λ rows. rows ++ row_entry row ∷ []) blocks.ended ∙ (ap (λ e. map entry_of_row blocks.before ++ e ∷ []) entry
+              ∙ (sym (map-append entry_of_row blocks.before (block_of (blocks.parts ++ ended ∷ []) ∷ [])) ∙ ap (map entry_of_row) (sym more))));
+        }
 
 module _ (line : NumberedLine) (old : RowsSoFar) where
   pub end_refused : (block : BlockSoFar) (kind : TextKind) → old.begun ≡ true → old.current ≡ Some block → is_row_end line.words ≡ true → row_of (block_told block) ≡ Err kind
