@@ -9,6 +9,12 @@ pub mod PlaceDecides
 pub mod PlaceLines
 pub mod PlacementText
 pub mod Pieces
+pub mod GroupSteps
+pub mod RowLines
+pub mod RowRanges
+pub mod RowSteps
+pub mod RowDecides
+pub mod RowReads
 pub mod Names
 pub mod Progresses
 pub mod AuxSteps

@@ -23,3 +23,4 @@ pub mod Loading
 pub mod Progress
 pub mod SoFar
 pub mod NetsSoFar
+pub mod RowProgress

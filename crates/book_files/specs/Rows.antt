@@ -1,8 +1,10 @@
 -- The rows file: a header, the number of rows, and row blocks with subrows.
-use Rattle.std.specs.Prelude.{ℕ, Bool, true, false, not, ◌&&◌, ◌||◌, List, [], ◌∷◌, length, map, codes, ◌==◌, is_some, is_none, ℤ, pos, int_lt, Option, Some, None, Result, Ok, Err, if◌then◌else◌, filter_map}
+use Rattle.std.specs.Prelude.{ℕ, Bool, true, false, ◌&&◌, List, [], ◌∷◌, ◌++◌, length, map, codes, ◌==◌, is_some, ℤ, pos, int_lt, Option, Some, None, Result, Ok, Err, if◌then◌else◌, filter_map}
 use Rattle.book_text.specs.Lines.{NumberedLine}
 use Rattle.book_files.specs.declared.fault.TextKind.{TextKind}
 use Rattle.book_files.specs.declared.fault.TextKind.TheVariants.{BadHeader, BadLine, BadNumber, CountMismatch}
+use Rattle.book_files.specs.declared.row_lines.PartKey.{PartKey}
+use Rattle.book_files.specs.declared.row_lines.PartKey.TheVariants.{Coordinate, Height, SiteWidth, SiteSpacing, SiteOrient, SiteSymmetry, Subrow}
 use Rattle.book_files.specs.Form.{Form}
 use Rattle.book_files.specs.Groups.{Group, groups}
 use Rattle.book_files.specs.Entries.{SubrowEntry, RowEntry}
@@ -144,34 +146,6 @@ open_in (Some block) = unless_ended block.parts
 abbrev pub open_block : List RowItem → Option (List RowPart)
 open_block items = open_in (last_of (blocks_in items))
 
--- a number above 0
-abbrev pub above_zero : ℤ → Result ℤ TextKind
-above_zero value = if int_lt (pos 0) value then Ok value else Err BadNumber
-
-abbrev pub positive_of : List ℕ → Result ℤ TextKind
-positive_of word = number_of word >>= above_zero
-
--- the word of a line of three words, a keyword, a colon and the word, which may stand once
-abbrev pub once_of : Bool → List (List ℕ) → Result (List ℕ) TextKind
-once_of told (key ∷ colon ∷ word ∷ []) = if told then Err BadLine else Ok word
-once_of told [] = Err BadLine
-once_of told (key ∷ []) = Err BadLine
-once_of told (key ∷ colon ∷ []) = Err BadLine
-once_of told (key ∷ colon ∷ word ∷ more ∷ rest) = Err BadLine
-
--- `SubrowOrigin : x NumSites : n`
-abbrev pub subrow_of : List (List ℕ) → Result RowPart TextKind
-subrow_of (key ∷ colon ∷ x ∷ many ∷ again ∷ n ∷ []) = if is_keyword (codes "numsites") many && is_colon_word again
-    then (number_of x >>= λ at. whole_of n >>= λ sites. Ok (subrow (record { x = at; sites = sites })))
-    else Err BadLine
-subrow_of [] = Err BadLine
-subrow_of (key ∷ []) = Err BadLine
-subrow_of (key ∷ colon ∷ []) = Err BadLine
-subrow_of (key ∷ colon ∷ x ∷ []) = Err BadLine
-subrow_of (key ∷ colon ∷ x ∷ many ∷ []) = Err BadLine
-subrow_of (key ∷ colon ∷ x ∷ many ∷ again ∷ []) = Err BadLine
-subrow_of (key ∷ colon ∷ x ∷ many ∷ again ∷ n ∷ more ∷ rest) = Err BadLine
-
 -- two keywords alone
 abbrev pub is_row_start : List (List ℕ) → Bool
 is_row_start (key ∷ way ∷ []) = is_keyword (codes "corerow") key && is_keyword (codes "horizontal") way
@@ -185,36 +159,129 @@ is_row_end (key ∷ []) = is_keyword (codes "end") key
 is_row_end [] = false
 is_row_end (key ∷ more ∷ rest) = false
 
--- the block has what it needs at its end
-abbrev pub is_whole_block : List RowPart → Bool
-is_whole_block parts = has coordinate_in parts && (has height_in parts && (has width_in parts || has spacing_in parts))
+-- what a line within a block is by its keyword
+abbrev pub key_of : List (List ℕ) → Option PartKey
+key_of words =
+    if is_keyed (codes "coordinate") words then Some Coordinate else if is_keyed (codes "height") words then Some Height
+    else if is_keyed (codes "sitewidth") words then Some SiteWidth else if is_keyed (codes "sitespacing") words then Some SiteSpacing
+    else if is_keyed (codes "siteorient") words then Some SiteOrient else if is_keyed (codes "sitesymmetry") words then Some SiteSymmetry
+    else if is_keyed (codes "subroworigin") words then Some Subrow else None
+
+-- what a block has so far
+pub record BlockTold : Type 0 where
+  pub y : Option ℤ
+  pub height : Option ℤ
+  pub width : Option ℤ
+  pub spacing : Option ℤ
+  pub oriented : Bool
+  pub symmetric : Bool
+  pub subrows : List SubrowEntry
+
+abbrev pub nothing_told : BlockTold
+nothing_told = record { y = None; height = None; width = None; spacing = None; oriented = false; symmetric = false; subrows = [] }
+
+abbrev pub told_by : List RowPart → BlockTold
+told_by parts = record {
+  y = latest coordinate_in parts;
+  height = latest height_in parts;
+  width = latest width_in parts;
+  spacing = latest spacing_in parts;
+  oriented = has orient_in parts;
+  symmetric = has symmetry_in parts;
+  subrows = filter_map subrow_in parts;
+}
+
+-- the same with one line more
+abbrev pub told_with : BlockTold → RowPart → BlockTold
+told_with t (coordinate y) = record { y = Some y; height = t.height; width = t.width; spacing = t.spacing; oriented = t.oriented; symmetric = t.symmetric; subrows = t.subrows }
+told_with t (height h) = record { y = t.y; height = Some h; width = t.width; spacing = t.spacing; oriented = t.oriented; symmetric = t.symmetric; subrows = t.subrows }
+told_with t (site_width w) = record { y = t.y; height = t.height; width = Some w; spacing = t.spacing; oriented = t.oriented; symmetric = t.symmetric; subrows = t.subrows }
+told_with t (site_spacing s) = record { y = t.y; height = t.height; width = t.width; spacing = Some s; oriented = t.oriented; symmetric = t.symmetric; subrows = t.subrows }
+told_with t site_orient = record { y = t.y; height = t.height; width = t.width; spacing = t.spacing; oriented = true; symmetric = t.symmetric; subrows = t.subrows }
+told_with t site_symmetry = record { y = t.y; height = t.height; width = t.width; spacing = t.spacing; oriented = t.oriented; symmetric = true; subrows = t.subrows }
+told_with t (subrow entry) = record { y = t.y; height = t.height; width = t.width; spacing = t.spacing; oriented = t.oriented; symmetric = t.symmetric; subrows = t.subrows ++ entry ∷ [] }
+told_with t ended = t
+
+-- a number above 0
+abbrev pub above_zero : ℤ → Result ℤ TextKind
+above_zero value = if int_lt (pos 0) value then Ok value else Err BadNumber
+
+abbrev pub positive_of : List ℕ → Result ℤ TextKind
+positive_of word = number_of word >>= above_zero
+
+-- the value of the third of three words, a keyword and a colon before it, which may stand once
+abbrev pub once_by : {A : Type 0} → (List ℕ → Result A TextKind) → Bool → List (List ℕ) → Result A TextKind
+once_by value told (key ∷ colon ∷ word ∷ []) = if told then Err BadLine else value word
+once_by value told [] = Err BadLine
+once_by value told (key ∷ []) = Err BadLine
+once_by value told (key ∷ colon ∷ []) = Err BadLine
+once_by value told (key ∷ colon ∷ word ∷ more ∷ rest) = Err BadLine
+
+-- `NumSites` and a colon
+abbrev pub is_subrow : List ℕ → List ℕ → Bool
+is_subrow many colon = is_keyword (codes "numsites") many && is_colon_word colon
+
+-- a subrow with its numbers, tested from left to right
+abbrev pub subrow_at : List ℕ → List ℕ → Result SubrowEntry TextKind
+subrow_at x n = number_of x >>= λ at. whole_of n >>= λ sites. Ok (record { x = at; sites = sites })
+
+-- `SubrowOrigin : x NumSites : n`
+abbrev pub subrow_of : List (List ℕ) → Result SubrowEntry TextKind
+subrow_of (key ∷ colon ∷ x ∷ many ∷ again ∷ n ∷ []) = if is_subrow many again then subrow_at x n else Err BadLine
+subrow_of [] = Err BadLine
+subrow_of (key ∷ []) = Err BadLine
+subrow_of (key ∷ colon ∷ []) = Err BadLine
+subrow_of (key ∷ colon ∷ x ∷ []) = Err BadLine
+subrow_of (key ∷ colon ∷ x ∷ many ∷ []) = Err BadLine
+subrow_of (key ∷ colon ∷ x ∷ many ∷ again ∷ []) = Err BadLine
+subrow_of (key ∷ colon ∷ x ∷ many ∷ again ∷ n ∷ more ∷ rest) = Err BadLine
+
+-- what a line within a block is, up to the block's end
+abbrev pub by_key : BlockTold → Option PartKey → List (List ℕ) → Result RowPart TextKind
+by_key t (Some Coordinate) words = once_by number_of (is_some t.y) words >>= λ y. Ok (coordinate y)
+by_key t (Some Height) words = once_by positive_of (is_some t.height) words >>= λ h. Ok (height h)
+by_key t (Some SiteWidth) words = once_by positive_of (is_some t.width) words >>= λ w. Ok (site_width w)
+by_key t (Some SiteSpacing) words = once_by positive_of (is_some t.spacing) words >>= λ s. Ok (site_spacing s)
+by_key t (Some SiteOrient) words = if t.oriented then Err BadLine else Ok site_orient
+by_key t (Some SiteSymmetry) words = if t.symmetric then Err BadLine else Ok site_symmetry
+by_key t (Some Subrow) words = subrow_of words >>= λ entry. Ok (subrow entry)
+by_key t None words = Err BadLine
+
+abbrev pub inner_of : BlockTold → List (List ℕ) → Result RowPart TextKind
+inner_of t words = by_key t (key_of words) words
+
+-- the spacing, and the width where there is no spacing
+abbrev pub pitch_in : Option ℤ → Option ℤ → Option ℤ
+pitch_in (Some spacing) width = Some spacing
+pitch_in None width = width
+
+-- the row of a block at its end, where it has what a row needs
+abbrev pub closed : Option ℤ → Option ℤ → Option ℤ → List SubrowEntry → Result RowEntry TextKind
+closed (Some y) (Some h) (Some p) subrows = Ok (record { y = y; height = h; pitch = p; subrows = subrows })
+closed None h p subrows = Err BadLine
+closed (Some y) None p subrows = Err BadLine
+closed (Some y) (Some h) None subrows = Err BadLine
+
+abbrev pub row_of : BlockTold → Result RowEntry TextKind
+row_of t = closed t.y t.height (pitch_in t.spacing t.width) t.subrows
 
 -- what a line within a block is, behind the block's lines before it
-abbrev pub part_of : List RowPart → List (List ℕ) → Result RowPart TextKind
-part_of parts words =
-    if is_row_end words then (if is_whole_block parts then Ok ended else Err BadLine)
-    else if is_keyed (codes "coordinate") words then (once_of (has coordinate_in parts) words >>= λ word. number_of word >>= λ y. Ok (coordinate y))
-    else if is_keyed (codes "height") words then (once_of (has height_in parts) words >>= λ word. positive_of word >>= λ h. Ok (height h))
-    else if is_keyed (codes "sitewidth") words then (once_of (has width_in parts) words >>= λ word. positive_of word >>= λ w. Ok (site_width w))
-    else if is_keyed (codes "sitespacing") words then (once_of (has spacing_in parts) words >>= λ word. positive_of word >>= λ s. Ok (site_spacing s))
-    else if is_keyed (codes "siteorient") words then (if has orient_in parts then Err BadLine else Ok site_orient)
-    else if is_keyed (codes "sitesymmetry") words then (if has symmetry_in parts then Err BadLine else Ok site_symmetry)
-    else if is_keyed (codes "subroworigin") words then subrow_of words
-    else Err BadLine
+abbrev pub part_of : BlockTold → List (List ℕ) → Result RowPart TextKind
+part_of t words = if is_row_end words then (row_of t >>= λ row. Ok ended) else inner_of t words
 
--- what a line between blocks is
-abbrev pub outside_of : List RowItem → List (List ℕ) → Result RowItem TextKind
-outside_of items words =
-    if is_keyed (codes "numrows") words then (count_of (is_some (latest total_in items)) words >>= λ n. Ok (total n))
+-- what a line between blocks is, where the number of rows was told or not
+abbrev pub outside_of : Bool → List (List ℕ) → Result RowItem TextKind
+outside_of told words =
+    if is_keyed (codes "numrows") words then (count_of told words >>= λ n. Ok (total n))
     else if is_row_start words then Ok begun else Err BadLine
 
-abbrev pub within_or_outside : Option (List RowPart) → List RowItem → List (List ℕ) → Result RowItem TextKind
-within_or_outside (Some parts) items words = part_of parts words >>= λ p. Ok (part p)
-within_or_outside None items words = outside_of items words
+abbrev pub within_or_outside : Option (List RowPart) → Bool → List (List ℕ) → Result RowItem TextKind
+within_or_outside (Some parts) told words = part_of (told_by parts) words >>= λ p. Ok (part p)
+within_or_outside None told words = outside_of told words
 
 abbrev pub row_meaning : List RowItem → NumberedLine → Result RowItem TextKind
 row_meaning [] line = if is_header (codes "scl") line.words then Ok header else Err BadHeader
-row_meaning (item ∷ items) line = within_or_outside (open_block (item ∷ items)) (item ∷ items) line.words
+row_meaning (item ∷ items) line = within_or_outside (open_block (item ∷ items)) (is_some (latest total_in (item ∷ items))) line.words
 
 abbrev pub or_zero : Option ℤ → ℤ
 or_zero None = pos 0

@@ -55,6 +55,16 @@ impl From<TextKind> for LineError {
     }
 }
 
+impl From<AllocError> for LineError {
+    ghost use Rattle.book_files.specs.declared.fault.LineError.TheVariants.{Memory};
+
+    ghost from_gives = { λ _ e. e ≡ Memory };
+
+    fn from(_: AllocError) -> LineError {
+        LineError::Memory
+    }
+}
+
 impl<T: Drop> From<AllocFailed<T>> for LineError {
     ghost use Rattle.book_files.specs.declared.fault.LineError.TheVariants.{Memory};
 

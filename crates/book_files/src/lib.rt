@@ -19,6 +19,8 @@ mod nodes;
 mod orient;
 mod places;
 mod records;
+mod row_block;
+mod row_lines;
 mod rows;
 mod text;
 mod walk;

@@ -6,6 +6,8 @@ use Rattle.book_files.specs.Weights.{weight_form}
 use Rattle.book_files.specs.WeightRules.{weights_grammar}
 use Rattle.book_files.specs.Places.{place_form}
 use Rattle.book_files.specs.PlaceRules.{places_grammar}
+use Rattle.book_files.specs.Rows.{row_form}
+use Rattle.book_files.specs.RowRules.{rows_grammar}
 use Rattle.book_files.proofs.Bridge.{one_answer_of}
 use Rattle.book_files.proofs.AuxDecides.{aux_decided}
 use Rattle.book_files.proofs.NodeDecides.{nodes_decided}
@@ -14,6 +16,7 @@ use Rattle.book_files.proofs.PlaceDecides.{places_decided}
 use Rattle.book_files.specs.Nets.{net_form}
 use Rattle.book_files.specs.NetRules.{nets_grammar}
 use Rattle.book_files.proofs.NetDecides.{nets_decided}
+use Rattle.book_files.proofs.RowDecides.{rows_decided}
 use Rattle.book_files.proofs.laws.one_answer.Goals as goal
 
 pub returns-clause-aux : goal.returns-clause-aux
@@ -32,4 +35,4 @@ pub returns-clause-pl : goal.returns-clause-pl
 returns-clause-pl c = one_answer_of place_form places_grammar places_decided
 
 pub returns-clause-scl : goal.returns-clause-scl
-returns-clause-scl c = ?
+returns-clause-scl c = one_answer_of row_form rows_grammar rows_decided
