@@ -13,7 +13,7 @@ use Rattle.book_files.specs.declared.nets.NetsSoFar.{NetsSoFar}
 use Rattle.book_files.specs.Words.{◌>>=◌, latest, is_header, is_keyed, is_colon_word, count_of, whole_of, number_of}
 use Rattle.book_files.specs.Groups.{Group}
 use Rattle.book_files.specs.Entries.{PinEntry, NetEntry}
-use Rattle.book_files.specs.Ranges.{IsPinInRange, IsNetInRange, pin_count}
+use Rattle.book_files.specs.Ranges.{IsInRange, IsPinInRange, IsNetInRange, pin_count}
 use Rattle.book_files.specs.Nets.{NetHead, NetItem, header, total, pin_total, net, pin, total_in, pin_total_in, net_in, pin_in, nets_in, open_net, unless_short, head_of, is_direction, offset_pin, plain_pin, pin_of, pin_behind, entry_of_net, net_meaning, net_ending, totals, net_form}
 use Rattle.book_files.specs.NetsSoFar.{IsNetsSoFar, all_entries, at_end}
 use Rattle.book_files.specs.Form.{Reads, FirstFault, Mean}
