@@ -1,12 +1,13 @@
 //! The Bookshelf files: whole texts to records, or exactly their first fault.
 //!
-//! It stands on the lines, words and numbers of texts, and below the joined design. What comes in is a file's bytes; what
-//! goes out are its records, which keep slices of the bytes, or the first fault with its line and its kind. Each reader
-//! goes over the bytes once.
+//! It stands on the lines, words and numbers of texts, and below the joined design. What comes in
+//! is a file's bytes; what goes out are its records, which keep slices of the bytes, or the first
+//! fault with its line and its kind. Each reader goes over the bytes once.
 //!
-//! The contract: each reader meets `Answers` for its kind of file. The rules of a kind are relations: what a line is behind
-//! the lines before it, which fault is named at it, what all lines make, and which fault is named at the end. `one_answer`
-//! says that each text has exactly one answer by them.
+//! The contract: each reader meets `Answers` for its kind of file. The rules of a kind are
+//! relations: what a line is behind the lines before it, which fault is named at it, what all lines
+//! make, and which fault is named at the end. `one_answer` says that each text has exactly one
+//! answer by them.
 #![tactic(auto)]
 
 mod aux;
