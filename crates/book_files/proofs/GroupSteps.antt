@@ -1,6 +1,7 @@
 -- The groups of items with one item more, and how many they and their parts are.
 use Rattle.std.proofs.Common.{◌≡◌, ◌≢◌, ℕ, ◌+◌, ◌≤◌, List, [], ◌∷◌, ◌++◌, length, Option, Some, None, refl, sym, ap, ◌∙◌, arith, suc}
-use Rattle.std.specs.List.{cons_option, sum_by}
+use Rattle.std.specs.List.{AllByRecursion, cons_option, sum_by}
+use Rattle.std.specs.Option.{IfSome}
 use Rattle.std.proofs.lemmas.List.Sums.{sum_by-cons}
 use Rattle.book_files.specs.Groups.{Group, unless_begun, parts_up_to, onto_groups, groups}
 
@@ -41,6 +42,16 @@ module _ {K P : Type 0} where
         not_empty : (front : List (Group K P)) (last : Group K P) → front ++ last ∷ [] ≡ [] → ⊥
         not_empty [] last e = cc
         not_empty (g ∷ gs) last e = cc
+
+  all-unless : (Q : P → Type 0) (b : Option K) (own : Option P) (parts : List P) → IfSome own Q → AllByRecursion Q parts → AllByRecursion Q (unless_begun b own parts)
+  all-unless Q (Some head) own parts here all = tt
+  all-unless Q None (Some p) parts here all = (here, all)
+  all-unless Q None None parts here all = all
+
+  all-onto : (Q : P → Type 0) (b : Option K) (parts : List P) (others : List (Group K P)) → AllByRecursion Q parts → AllByRecursion (λ group. AllByRecursion Q group.parts) others
+      → AllByRecursion (λ group. AllByRecursion Q group.parts) (onto_groups b parts others)
+  all-onto Q (Some head) parts others here all = (here, all)
+  all-onto Q None parts others here all = all
 
   size-onto : (b : Option K) (own : Option P) (parts : List P) (others : List (Group K P)) (n : ℕ) → length parts + (length others + sum_by (λ group. length group.parts) others) ≤ n
       → length (unless_begun b own parts) + (length (onto_groups b parts others) + sum_by (λ group. length group.parts) (onto_groups b parts others)) ≤ suc n
@@ -96,6 +107,15 @@ module _ {I K P : Type 0} (begun : I → Option K) (part : I → Option P) where
   groups-other [] item none own = ap (λ b. onto_groups b [] []) none
   groups-other (first ∷ items) item none own = ap (λ ps. onto_groups (begun first) ps (groups begun part (items ++ item ∷ []))) (parts-other items item none own)
       ∙ ap (onto_groups (begun first) (parts_up_to begun part items)) (groups-other items item none own)
+
+  all-parts : (Q : P → Type 0) (items : List I) → AllByRecursion (λ item. IfSome (part item) Q) items → AllByRecursion Q (parts_up_to begun part items)
+  all-parts Q [] all = tt
+  all-parts Q (item ∷ items) all = all-unless Q (begun item) (part item) (parts_up_to begun part items) all.0 (all-parts Q items all.1)
+
+  -- what each part has among the items, each part of each group has
+  pub all-groups : (Q : P → Type 0) (items : List I) → AllByRecursion (λ item. IfSome (part item) Q) items → AllByRecursion (λ group. AllByRecursion Q group.parts) (groups begun part items)
+  all-groups Q [] all = tt
+  all-groups Q (item ∷ items) all = all-onto Q (begun item) (parts_up_to begun part items) (groups begun part items) (all-parts Q items all.1) (all-groups Q items all.1)
 
   groups-size : (items : List I) → length (parts_up_to begun part items) + (length (groups begun part items) + sum_by (λ group. length group.parts) (groups begun part items)) ≤ length items
   groups-size [] = omega arith

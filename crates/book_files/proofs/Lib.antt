@@ -19,7 +19,9 @@ pub mod Names
 pub mod Progresses
 pub mod AuxSteps
 pub mod Items
+pub mod GroupSteps
 pub mod NodeSteps
+pub mod NetSteps
 pub mod WeightSteps
 pub mod PlaceSteps
 pub mod FewRecords
@@ -27,3 +29,5 @@ pub mod GoodRecords
 pub mod GoodNodes
 pub mod GoodWeights
 pub mod GoodPlaces
+pub mod GoodNets
+pub mod NetDecides

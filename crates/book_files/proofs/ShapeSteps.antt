@@ -29,15 +29,6 @@ pub record Tells {A : Type 0} (Is : A → Type 0) (told : Result A TextKind) : T
   pub back : (x : A) → Is x → told ≡ Ok x
   pub fault : (kind : TextKind) → told ≡ Err kind → kind ≡ BadNumber
 
--- nothing is wanted, so the result is BadNumber
-pub tells_none : {A : Type 0} (Is : A → Type 0) (told : Result A TextKind) → Tells Is told → (((x : A) × Is x) → ⊥) → told ≡ Err BadNumber
-tells_none Is (Ok x) tells none = absurd (none (x, tells.value x refl))
-tells_none Is (Err kind) tells none = ap Err (tells.fault kind refl)
-
--- one value only
-pub tells_one : {A : Type 0} (Is : A → Type 0) (told : Result A TextKind) → Tells Is told → (a b : A) → Is a → Is b → a ≡ b
-tells_one Is told tells a b x y = let e = sym (tells.back a x) ∙ tells.back b y in cc
-
 tells_result : {A : Type 0} (r : Result A NumberFault) → Tells (λ x. r ≡ Ok x) (number_of_result r)
 tells_result (Ok y) = record { value = λ x e. cc; back = λ x e. cc; fault = λ kind e. cc }
 tells_result (Err fault) = record { value = λ x e. cc; back = λ x e. cc; fault = λ kind e. cc }
@@ -96,9 +87,6 @@ module _ {A : Type 0} (S N : Type 0) (Is : A → Type 0) where
   judges_map S' N' Is' f (Err BadLine) to back numbers numbers_back item j = λ shape. j (back shape)
   judges_map S' N' Is' f (Err BadNumber) to back numbers numbers_back item j = (to j.0, λ n. j.1 (numbers_back j.0 n))
   judges_map S' N' Is' f (Err (CountMismatch told found)) to back numbers numbers_back item j = j
-
-  pub judges_ok : (r : Result A TextKind) (x : A) → r ≡ Ok x → Judges S N Is r → S × N × Is x
-  judges_ok r x e j = subst (Judges S N Is) e j
 
 -- a keyed line has one keyword
 pub keyed_apart : (key other : List ℕ) (words : List (List ℕ)) → (key ≡ other → ⊥) → IsTrue (is_keyed key words) → IsFalse (is_keyed other words)

@@ -22,4 +22,5 @@ pub mod PlaceText
 pub mod Loading
 pub mod Progress
 pub mod SoFar
+pub mod NetsSoFar
 pub mod RowProgress

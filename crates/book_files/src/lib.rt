@@ -4,8 +4,9 @@
 //! goes out are its records, which keep slices of the bytes, or the first fault with its line and its kind. Each reader
 //! goes over the bytes once.
 //!
-//! The contract: each reader meets `Answers` for its form. A form says what a line means behind the lines before it, and
-//! what all lines make; `one_answer` says that each text has exactly one answer by it.
+//! The contract: each reader meets `Answers` for its kind of file. The rules of a kind are relations: what a line is behind
+//! the lines before it, which fault is named at it, what all lines make, and which fault is named at the end. `one_answer`
+//! says that each text has exactly one answer by them.
 #![tactic(auto)]
 
 mod aux;

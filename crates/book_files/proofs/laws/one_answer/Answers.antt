@@ -13,6 +13,9 @@ use Rattle.book_files.proofs.AuxDecides.{aux_decided}
 use Rattle.book_files.proofs.NodeDecides.{nodes_decided}
 use Rattle.book_files.proofs.WeightDecides.{weights_decided}
 use Rattle.book_files.proofs.PlaceDecides.{places_decided}
+use Rattle.book_files.specs.Nets.{net_form}
+use Rattle.book_files.specs.NetRules.{nets_grammar}
+use Rattle.book_files.proofs.NetDecides.{nets_decided}
 use Rattle.book_files.proofs.RowDecides.{rows_decided}
 use Rattle.book_files.proofs.laws.one_answer.Goals as goal
 
@@ -23,7 +26,7 @@ pub returns-clause-nodes : goal.returns-clause-nodes
 returns-clause-nodes c = one_answer_of node_form nodes_grammar nodes_decided
 
 pub returns-clause-nets : goal.returns-clause-nets
-returns-clause-nets c = ?
+returns-clause-nets c = one_answer_of net_form nets_grammar nets_decided
 
 pub returns-clause-wts : goal.returns-clause-wts
 returns-clause-wts c = one_answer_of weight_form weights_grammar weights_decided
