@@ -89,8 +89,12 @@ any_line (line ∷ lines) = (tt, any_line lines)
 
 pin_count-map : (nets : List (Group NetHead PinEntry)) → pin_count (map entry_of_net nets) ≡ sum_by (λ net. length net.parts) nets
 pin_count-map [] = refl
-pin_count-map (first ∷ nets) = omega (arith, pin_count-map nets, sum_by-cons (λ (net : NetEntry). length net.pins) (entry_of_net first) (map entry_of_net nets),
-    sum_by-cons (λ (net : Group NetHead PinEntry). length net.parts) first nets)
+pin_count-map (first ∷ nets) = omega (
+  arith,
+  pin_count-map nets,
+  sum_by-cons (λ (net : NetEntry). length net.pins) (entry_of_net first) (map entry_of_net nets),
+  sum_by-cons (λ (net : Group NetHead PinEntry). length net.parts) first nets,
+)
 
 in_range : (nets : List (Group NetHead PinEntry)) → AllByRecursion (λ net. AllByRecursion IsPinInRange net.parts) nets → AllByRecursion IsNetInRange (map entry_of_net nets)
 in_range [] all = tt

@@ -19,7 +19,6 @@ pub mod Names
 pub mod Progresses
 pub mod AuxSteps
 pub mod Items
-pub mod GroupSteps
 pub mod NodeSteps
 pub mod NetSteps
 pub mod WeightSteps

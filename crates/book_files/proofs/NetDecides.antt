@@ -1,9 +1,8 @@
 -- What the nets reader decides of a line and of the end is what the rules say.
-use Rattle.std.proofs.Common.{◌≡◌, ◌≢◌, ◌⊎◌, ℕ, ◌+◌, ◌<◌, ◌≤◌, Bool, true, false, ◌||◌, nat_lt, ◌==◌, if◌then◌else◌, List, [], ◌∷◌, length, map, codes, is_some, IsTrue, IsFalse, ℤ, pos, Option, Some, None, Result, Ok, Err, inl, inr, refl, sym, ap, ap₂, subst, ◌∙◌, arith}
-use Rattle.std.specs.List.{filter_map}
+use Rattle.std.proofs.Common.{◌≡◌, ◌≢◌, ◌⊎◌, ℕ, ◌+◌, Bool, true, false, ◌||◌, nat_lt, ◌==◌, if◌then◌else◌, List, [], ◌∷◌, length, map, codes, is_some, IsTrue, IsFalse, ℤ, pos, Option, Some, None, Result, Ok, Err, inl, inr, refl, sym, ap, ap₂, subst, ◌∙◌, arith}
 use Rattle.std.specs.Str.{bytes_eq}
 use Rattle.std.proofs.lemmas.Slice.Eq.{bytes_eq-Decides}
-use Rattle.std.proofs.lemmas.Bool.{both_ways, cond_both, cond-true, cond-false, or_parts, ltb-true, ltb-false, lt-ltb, le-ltb, eqb-true, eqb-false, eq-eqb, ne_eqb}
+use Rattle.std.proofs.lemmas.Bool.{both_ways, cond_both, cond-true, cond-false, or_parts, ltb-true, ltb-false, lt-ltb, eqb-true, eqb-false, eq-eqb, ne_eqb}
 use Rattle.std.proofs.lemmas.List.{length-map}
 use Rattle.book_text.specs.Lines.{NumberedLine}
 use Rattle.book_files.specs.declared.fault.TextKind.{TextKind}
@@ -12,8 +11,8 @@ use Rattle.book_files.specs.Words.{◌>>=◌, latest, is_header, is_keyed, is_co
 use Rattle.book_files.specs.Groups.{Group}
 use Rattle.book_files.specs.Entries.{PinEntry, NetEntry}
 use Rattle.book_files.specs.Shapes.{word_at, IsWhole, IsNumber, HasWhole, IsOnceShape}
-use Rattle.book_files.specs.Nets.{NetHead, NetItem, header, total, pin_total, net, pin, total_in, pin_total_in, pin_in, nets_in, open_net, unless_short, head_of, is_direction, offset_pin, plain_pin, pin_of, pin_behind, entry_of_net, net_meaning, net_ending, totals, net_form}
-use Rattle.book_files.specs.NetRules.{is_net_start, is_keyed_line, IsNetShape, IsPinShape, IsPinOffset, IsShort, IsNotShort, IsPinLine, IsPinOf, IsNetLine, IsNetsItem, HasPinLine, HasNetsShape, HasNetsNumbers, IsShortAtLine, IsPinTooMany, IsNotShortAtLine, IsNetsLineFault, pins_found, IsNetsFile, IsOtherNets, IsOtherPins, IsNetsEndFault, nets_grammar}
+use Rattle.book_files.specs.Nets.{NetHead, NetItem, header, total, pin_total, net, pin, total_in, pin_total_in, nets_in, open_net, unless_short, head_of, is_direction, offset_pin, plain_pin, pin_of, pin_behind, entry_of_net, net_meaning, net_ending, totals, net_form}
+use Rattle.book_files.specs.NetRules.{is_net_start, is_keyed_line, IsNetShape, IsPinShape, IsPinOffset, IsShort, IsNotShort, IsPinLine, IsNetsItem, HasPinLine, HasNetsShape, HasNetsNumbers, IsShortAtLine, IsPinTooMany, IsNotShortAtLine, IsNetsLineFault, pins_found, IsNetsFile, IsNetsEndFault, nets_grammar}
 use Rattle.book_files.proofs.Bridge.{Decides}
 use Rattle.book_files.proofs.ShapeSteps.{Judges, tells_whole, tells_number, judges_bind, judges_map, keyed_apart, count_judged, count_back, header_item, header_fault}
 
@@ -276,10 +275,12 @@ module _ (first : NetItem) (rest : List NetItem) (line : NumberedLine) where
     in_net : (last : Group NetHead PinEntry) → open_net (first ∷ rest) ≡ Some last → (b : Bool) → nat_lt (length last.parts) last.head.degree ≡ b → (r : Result PinEntry TextKind) → PinJudged line.number line.words r
         → Judged (first ∷ rest) line (r >>= λ entry. if b then Ok (pin entry) else Err (CountMismatch last.head.degree (last.head.degree + 1)))
     in_net last is true less (Ok entry) j = let room = ltb-true (length last.parts) last.head.degree less in (
-      early, inr (inr (inr (last, line_in last is j.0))), numbers_in j.1,
+      early,
+      inr (inr (inr (last, line_in last is j.0))),
+      numbers_in j.1,
       (λ told found many. let same = same_last (first ∷ rest) many.last last many.shape.begun is in
-      let degree = ap (λ (g : Group NetHead PinEntry). g.head.degree) same in let parts = ap (λ (g : Group NetHead PinEntry). length g.parts) same in
-      omega (arith, room, many.degree, many.full)),
+          let degree = ap (λ (g : Group NetHead PinEntry). g.head.degree) same in let parts = ap (λ (g : Group NetHead PinEntry). length g.parts) same in
+          omega (arith, room, many.degree, many.full)),
       (not_first first rest line, record { last = last; shape = line_in last is j.0; number = j.2.line; node = j.2.node; offset = j.2.offset; room = room }),
     )
     in_net last is false not_less (Ok entry) j =

@@ -72,7 +72,7 @@ module _ (line : NumberedLine) (old new : NetsSoFar) where
   header_kept none is begun told pin_told found closed current lines before = kept net_form IsNetsSoFar lines line old new header (λ items so_far. (
     meaning_first items line (sym so_far.begun ∙ none) ∙ cond-true _ _ _ is,
     same_nets items header refl refl found closed current begun (told ∙ (so_far.total ∙ sym (latest-no total_in items header refl)))
-    (pin_told ∙ (so_far.pin_total ∙ sym (latest-no pin_total_in items header refl))) so_far,
+        (pin_told ∙ (so_far.pin_total ∙ sym (latest-no pin_total_in items header refl))) so_far,
   )) before
 
   pub total_kept : (n : ℕ) → old.begun ≡ true → is_keyed (codes "numnets") line.words ≡ true → count_of (is_some old.total) line.words ≡ Ok n → new.begun ≡ true → new.total ≡ Some n → new.pin_total ≡ old.pin_total
@@ -81,7 +81,7 @@ module _ (line : NumberedLine) (old new : NetsSoFar) where
   total_kept n some keyed counts begun told pin_told found closed current lines before = kept net_form IsNetsSoFar lines line old new (total n) (λ items so_far. (
     meaning_so_far items some so_far ∙ (cond-true _ _ _ keyed ∙ ap (λ r. r >>= λ m. Ok (total m)) counts),
     same_nets items (total n) refl refl found closed current begun (told ∙ sym (latest-yes total_in items (total n) n refl))
-    (pin_told ∙ (so_far.pin_total ∙ sym (latest-no pin_total_in items (total n) refl))) so_far,
+        (pin_told ∙ (so_far.pin_total ∙ sym (latest-no pin_total_in items (total n) refl))) so_far,
   )) before
 
   pub pin_total_kept : (p : ℕ) → old.begun ≡ true → is_keyed (codes "numnets") line.words ≡ false → is_keyed (codes "numpins") line.words ≡ true → count_of (is_some old.pin_total) line.words ≡ Ok p
@@ -90,7 +90,7 @@ module _ (line : NumberedLine) (old new : NetsSoFar) where
   pin_total_kept p some other keyed counts begun told pin_told found closed current lines before = kept net_form IsNetsSoFar lines line old new (pin_total p) (λ items so_far. (
     meaning_so_far items some so_far ∙ (cond-false _ _ _ other ∙ (cond-true _ _ _ keyed ∙ ap (λ r. r >>= λ m. Ok (pin_total m)) counts)),
     same_nets items (pin_total p) refl refl found closed current begun (told ∙ (so_far.total ∙ sym (latest-no total_in items (pin_total p) refl)))
-    (pin_told ∙ sym (latest-yes pin_total_in items (pin_total p) p refl)) so_far,
+        (pin_told ∙ sym (latest-yes pin_total_in items (pin_total p) p refl)) so_far,
   )) before
 
   pub net_kept : old.begun ≡ true → is_keyed (codes "numnets") line.words ≡ false → is_keyed (codes "numpins") line.words ≡ false → is_keyed (codes "netdegree") line.words ≡ true
@@ -99,18 +99,18 @@ module _ (line : NumberedLine) (old new : NetsSoFar) where
       let group : Group NetHead PinEntry = record { head = step.head; parts = [] } in
       let nets : nets_in (items ++ item ∷ []) ≡ nets_in items ++ group ∷ [] = groups-begun net_in pin_in items item step.head refl in
       let pins : length (filter_map pin_in (items ++ item ∷ [])) ≡ length (filter_map pin_in items) = ap length (filter_map-no pin_in items item refl) in (
-    meaning_so_far items some so_far ∙ (cond-false _ _ _ other ∙ (cond-false _ _ _ another ∙ (cond-true _ _ _ keyed ∙ step.means))),
-    record {
-      begun = step.begun ∙ (some ∙ sym (has_items-push items item));
-      total = step.total ∙ (so_far.total ∙ sym (latest-no total_in items item refl));
-      pin_total = step.pin_total ∙ (so_far.pin_total ∙ sym (latest-no pin_total_in items item refl));
-      pins = λ few. step.pins ∙ (so_far.pins (omega arith) ∙ sym pins);
-      last = ap last_of nets ∙ (last_of-push (nets_in items) group ∙ sym step.current);
-      front = nets_in items;
-      nets = nets ∙ ap (λ o. nets_in items ++ option_to_list o) (sym step.current);
-      closed = step.closed ∙ entries_so_far items old so_far;
-    },
-  )) before
+        meaning_so_far items some so_far ∙ (cond-false _ _ _ other ∙ (cond-false _ _ _ another ∙ (cond-true _ _ _ keyed ∙ step.means))),
+        record {
+          begun = step.begun ∙ (some ∙ sym (has_items-push items item));
+          total = step.total ∙ (so_far.total ∙ sym (latest-no total_in items item refl));
+          pin_total = step.pin_total ∙ (so_far.pin_total ∙ sym (latest-no pin_total_in items item refl));
+          pins = λ few. step.pins ∙ (so_far.pins (omega arith) ∙ sym pins);
+          last = ap last_of nets ∙ (last_of-push (nets_in items) group ∙ sym step.current);
+          front = nets_in items;
+          nets = nets ∙ ap (λ o. nets_in items ++ option_to_list o) (sym step.current);
+          closed = step.closed ∙ entries_so_far items old so_far;
+        },
+      )) before
 
   pub pin_kept : old.begun ≡ true → is_keyed (codes "numnets") line.words ≡ false → is_keyed (codes "numpins") line.words ≡ false → is_keyed (codes "netdegree") line.words ≡ false
       → PinKeptIn (option_map open_group old.current) (option_map open_group new.current) line → new.begun ≡ true → new.total ≡ old.total → new.pin_total ≡ old.pin_total
@@ -122,18 +122,18 @@ module _ (line : NumberedLine) (old new : NetsSoFar) where
       let is : option_map open_group new.current ≡ Some (with_pin step.before entry) = step.is ∙ ap Some step.kept.grown in
       let pins : length (filter_map pin_in (items ++ item ∷ [])) ≡ length (filter_map pin_in items) + 1 =
       ap length (filter_map-yes pin_in items item entry refl) ∙ length-append (filter_map pin_in items) (entry ∷ []) in (
-    meaning_so_far items some so_far ∙ (cond-false _ _ _ other ∙ (cond-false _ _ _ another ∙ (cond-false _ _ _ a_third ∙ (ap (λ last. pin_behind last line) step.was ∙ step.kept.means)))),
-    record {
-      begun = begun ∙ sym (has_items-push items item);
-      total = told ∙ (so_far.total ∙ sym (latest-no total_in items item refl));
-      pin_total = pin_told ∙ (so_far.pin_total ∙ sym (latest-no pin_total_in items item refl));
-      pins = λ few. let so = so_far.pins (omega arith) in omega arith;
-      last = ap last_of nets ∙ (last_of-push so_far.front (with_pin step.before entry) ∙ sym is);
-      front = so_far.front;
-      nets = nets ∙ ap (λ o. so_far.front ++ option_to_list o) (sym is);
-      closed = ap net_entries closed ∙ so_far.closed;
-    },
-  )) before
+        meaning_so_far items some so_far ∙ (cond-false _ _ _ other ∙ (cond-false _ _ _ another ∙ (cond-false _ _ _ a_third ∙ (ap (λ last. pin_behind last line) step.was ∙ step.kept.means)))),
+        record {
+          begun = begun ∙ sym (has_items-push items item);
+          total = told ∙ (so_far.total ∙ sym (latest-no total_in items item refl));
+          pin_total = pin_told ∙ (so_far.pin_total ∙ sym (latest-no pin_total_in items item refl));
+          pins = λ few. let so = so_far.pins (omega arith) in omega arith;
+          last = ap last_of nets ∙ (last_of-push so_far.front (with_pin step.before entry) ∙ sym is);
+          front = so_far.front;
+          nets = nets ∙ ap (λ o. so_far.front ++ option_to_list o) (sym is);
+          closed = ap net_entries closed ∙ so_far.closed;
+        },
+      )) before
 
 -- the end, where both counts are compared
 totals_counted : (told pin_told : Option ℕ) (nets : List NetEntry) (found : ℕ) → totals told pin_told nets found ≡ (both_counted told pin_told (length nets) found >>= λ done. Ok nets)

@@ -1,5 +1,5 @@
 -- The nets file: a header, count lines, and nets with their pins.
-use Rattle.std.specs.Prelude.{ℕ, ◌+◌, Bool, true, false, ◌||◌, List, [], ◌∷◌, length, map, codes, nat_lt, ◌==◌, is_some, ℤ, pos, Option, Some, None, Result, Ok, Err, if◌then◌else◌, filter_map}
+use Rattle.std.specs.Prelude.{ℕ, ◌+◌, Bool, ◌||◌, List, [], ◌∷◌, length, map, codes, nat_lt, ◌==◌, is_some, pos, Option, Some, None, Result, Ok, Err, if◌then◌else◌, filter_map}
 use Rattle.book_text.specs.Lines.{NumberedLine}
 use Rattle.book_files.specs.declared.fault.TextKind.{TextKind}
 use Rattle.book_files.specs.declared.fault.TextKind.TheVariants.{BadHeader, BadLine, CountMismatch}
