@@ -1,9 +1,8 @@
 mod nets;
+mod rows;
 
 use crate::{Orient, ReadError, TextFault, TextKind, read_aux, read_nodes, read_pl, read_wts};
 use book_text::Micro;
-
-mod rows;
 
 /// Why nothing was read, if it is a fault of the text.
 fn fault_of<T: Drop>(read: Result<T, ReadError>) -> Option<TextFault> {
