@@ -1,10 +1,10 @@
 -- The bytes that a load has read so far are a front of what the file holds.
-use Rattle.std.proofs.Common.{◌≡◌, ℕ, ◌+◌, ◌-◌, ◌<◌, ◌≤◌, List, [], ◌++◌, length, take, drop, Option, Some, None, IsSome, IfSome, Ok, refl, sym, ap, ◌∙◌, subst, arith, append_assoc, append-nil, length-append}
+use Rattle.std.proofs.Common.{◌≡◌, ℕ, ◌+◌, ◌-◌, ◌<◌, ◌≤◌, List, [], ◌++◌, length, take, drop, Option, Some, None, IsSome, IfSome, Ok, refl, ap, ◌∙◌, subst, arith, append_assoc, append-nil, length-append}
 use Rattle.std.specs.Option.{unwrap_or}
 use Rattle.std.proofs.lemmas.List.{take-append-drop, take_at, length-take-le, take-take, take-append-le}
 use Rattle.std.proofs.Math.Seq.{drop-append_seam}
 use Rattle.book_outer.specs.Files.{FileEntry, content}
-use Rattle.book_outer.specs.Folder.{Reading, Begins, Reads, ReadsOn, TakesFront}
+use Rattle.book_outer.specs.Folder.{Reading, Begins, Reads, TakesFront}
 
 -- the file is there and begins with the bytes, and is read on behind them
 pub record IsTold (files : List FileEntry) (reading : Option Reading) (name bytes : List ℕ) : Type 0 where

@@ -1,5 +1,5 @@
 -- The line of a place as its pieces are written.
-use Rattle.std.proofs.Common.{◌≡◌, ℕ, Bool, true, false, List, [], ◌∷◌, ◌++◌, codes, if◌then◌else◌, refl, sym, ap, ◌∙◌, append_assoc, append-nil}
+use Rattle.std.proofs.Common.{◌≡◌, ℕ, Bool, true, false, List, [], ◌∷◌, ◌++◌, codes, if◌then◌else◌, refl, append_assoc}
 use Rattle.book_text.specs.Decimal.{canonical}
 use Rattle.book_files.specs.Entries.{PlaceEntry}
 use Rattle.book_files.specs.PlaceText.{orient_word, place_words, line_of}

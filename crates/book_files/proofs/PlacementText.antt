@@ -1,14 +1,14 @@
 -- A reader of a placement's text gives the places back, by the laws of spaced words and of canonical decimals.
-use Rattle.std.proofs.Common.{◌≡◌, ◌≢◌, ℕ, ◌+◌, ◌-◌, ◌^◌, ◌<◌, ◌≤◌, Bool, true, false, List, [], ◌∷◌, ◌++◌, length, map, flat_map, codes, Some, Ok, IsTrue, slice_index, ℤ, pos, neg_ℤ, ◌≤ℤ◌, refl, sym, ap, ◌∙◌, append_assoc, inl, inr, arith, subst}
+use Rattle.std.proofs.Common.{◌≡◌, ◌≢◌, ℕ, ◌+◌, ◌-◌, ◌^◌, ◌<◌, Bool, true, false, List, [], ◌∷◌, ◌++◌, length, map, flat_map, codes, Some, Ok, slice_index, ℤ, pos, neg_ℤ, ◌≤ℤ◌, refl, sym, ap, append_assoc, inl, inr, arith, subst}
 use Rattle.std.specs.List.{All, AllByRecursion, list_all, filter_map}
 use Rattle.std.proofs.lemmas.List.Elements.{All-from_recursion}
-use Rattle.book_text.specs.Lines.{NumberedLine, IsWord, is_word_byte, spaced, words_of, lines_of, has_content, content_from}
+use Rattle.book_text.specs.Lines.{IsWord, is_word_byte, spaced, words_of, lines_of, has_content, content_from}
 use Rattle.book_text.specs.Decimal.{canonical, micro_value}
 use Rattle.book_files.specs.declared.orient.Orient.{Orient}
 use Rattle.book_files.specs.declared.orient.Orient.TheVariants.{N, S, E, W, FN, FS, FE, FW}
 use Rattle.book_files.specs.Grammar.{AreItems, IsReading}
-use Rattle.book_files.specs.Places.{PlaceItem, header, placed, place_in, orient_of, is_fixed_mark}
-use Rattle.book_files.specs.PlaceRules.{IsPlaceEnd, IsPlaceShape, IsPlaceLine, places_grammar}
+use Rattle.book_files.specs.Places.{PlaceItem, header, placed, place_in, orient_of}
+use Rattle.book_files.specs.PlaceRules.{IsPlaceEnd, IsPlaceLine, places_grammar}
 use Rattle.book_files.specs.Entries.{PlaceEntry}
 use Rattle.book_files.specs.PlaceText.{IsWritable, orient_word, fixed_words, place_words, line_of, placement_text, numbered}
 

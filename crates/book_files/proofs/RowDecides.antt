@@ -1,5 +1,5 @@
 -- What the rows reader decides of a line is what the rules say.
-use Rattle.std.proofs.Common.{◌≡◌, ◌≢◌, ◌⊎◌, ℕ, Bool, true, false, ◌&&◌, if◌then◌else◌, List, [], ◌∷◌, length, map, codes, IsTrue, ℤ, pos, int_lt, ◌<ℤ◌, Option, Some, None, is_some, Result, Ok, Err, inl, inr, refl, sym, ap, subst, ◌∙◌, arith}
+use Rattle.std.proofs.Common.{◌≡◌, ◌≢◌, ◌⊎◌, ℕ, Bool, true, false, ◌&&◌, if◌then◌else◌, List, [], ◌∷◌, map, codes, ℤ, pos, int_lt, ◌<ℤ◌, Option, Some, None, is_some, Result, Ok, Err, inl, inr, refl, sym, ap, subst, ◌∙◌, arith}
 use Rattle.std.specs.Char.{to_ascii_lowercase}
 use Rattle.std.specs.Str.{bytes_eq}
 use Rattle.std.proofs.lemmas.Bool.{and_parts, and_from, cond_both, cond-true, cond-false}
@@ -14,8 +14,8 @@ use Rattle.book_files.specs.declared.row_lines.PartKey.TheVariants.{Coordinate, 
 use Rattle.book_files.specs.Words.{◌>>=◌, latest, is_header, is_keyed, is_keyword, is_colon_word, count_of, number_of, whole_of}
 use Rattle.book_files.specs.Shapes.{word_at, IsWhole, IsNumber, IsPositive, HasWhole, HasNumber, HasPositive, IsOnceShape}
 use Rattle.book_files.specs.Entries.{SubrowEntry, RowEntry}
-use Rattle.book_files.specs.Rows.{RowPart, coordinate, height, site_width, site_spacing, site_orient, site_symmetry, subrow, ended, RowItem, header, total, begun, part, total_in, coordinate_in, height_in, width_in, spacing_in, orient_in, symmetry_in, subrow_in, open_block, blocks_in, is_row_start, is_row_end, key_of, told_by, above_zero, positive_of, once_by, is_subrow, subrow_at, subrow_of, by_key, inner_of, pitch_in, closed, row_of, part_of, outside_of, within_or_outside, row_meaning, entry_of_row, rows_told, row_ending, row_form}
-use Rattle.book_files.specs.RowRules.{IsSubrowShape, IsOnceKeyed, IsWholeBlock, IsPartShape, ArePartNumbers, IsPartLine, IsRowsItem, HasRowsShape, HasRowsNumbers, IsRowsFile, IsOtherRows, IsRowsEndFault, rows_grammar}
+use Rattle.book_files.specs.Rows.{RowPart, coordinate, height, site_width, site_spacing, site_orient, site_symmetry, subrow, ended, RowItem, header, total, begun, part, total_in, coordinate_in, height_in, width_in, spacing_in, orient_in, symmetry_in, open_block, blocks_in, is_row_start, is_row_end, key_of, told_by, above_zero, positive_of, once_by, is_subrow, subrow_at, subrow_of, by_key, inner_of, pitch_in, closed, row_of, part_of, outside_of, within_or_outside, row_meaning, entry_of_row, rows_told, row_ending, row_form}
+use Rattle.book_files.specs.RowRules.{IsSubrowShape, IsOnceKeyed, IsWholeBlock, IsPartShape, ArePartNumbers, IsRowsItem, HasRowsShape, HasRowsNumbers, IsRowsFile, IsRowsEndFault, rows_grammar}
 use Rattle.book_files.proofs.Bridge.{Decides}
 use Rattle.book_files.proofs.ShapeSteps.{Judges, Tells, tells_number, tells_whole, judges_bind, judges_told, judges_map, count_judged, count_back, shape_item, shape_named, shape_named_back, count_told, ToldFault, told_file, told_file_back, told_fault, told_fault_back}
 use Rattle.book_files.proofs.RowSteps.{at_end, part_inner}

@@ -1,5 +1,5 @@
 -- The numbers of a rows file are in range.
-use Rattle.std.proofs.Common.{◌≡◌, ℕ, ◌^◌, ◌≤◌, Bool, true, false, List, [], ◌∷◌, ◌++◌, cond, nat_le, pos, int_lt, ◌<ℤ◌, ℤ, Option, Some, None, Result, Ok, Err, IfOk, refl, arith}
+use Rattle.std.proofs.Common.{◌≡◌, ℕ, ◌^◌, ◌≤◌, Bool, true, false, List, [], ◌∷◌, ◌++◌, cond, nat_le, pos, int_lt, ℤ, Option, Some, None, Result, Ok, Err, IfOk, refl, arith}
 use Rattle.std.specs.Option.{IfSome}
 use Rattle.std.specs.List.{AllByRecursion}
 use Rattle.std.proofs.lemmas.Bool.{cond_both, leb-true}
@@ -11,7 +11,7 @@ use Rattle.book_files.specs.declared.fault.TextKind.{TextKind}
 use Rattle.book_files.specs.declared.fault.TextKind.TheVariants.{BadLine, BadNumber}
 use Rattle.book_files.specs.declared.row_lines.PartKey.{PartKey}
 use Rattle.book_files.specs.declared.row_lines.PartKey.TheVariants.{Coordinate, Height, SiteWidth, SiteSpacing, SiteOrient, SiteSymmetry, Subrow}
-use Rattle.book_files.specs.Words.{◌>>=◌, number_of_result, number_of, whole_of}
+use Rattle.book_files.specs.Words.{number_of_result, number_of, whole_of}
 use Rattle.book_files.specs.Entries.{SubrowEntry, RowEntry}
 use Rattle.book_files.specs.Ranges.{IsInRange, IsSubrowInRange, IsRowInRange}
 use Rattle.book_files.specs.Rows.{RowPart, coordinate, height, site_width, site_spacing, site_orient, site_symmetry, subrow, ended, end_in, BlockTold, told_with, above_zero, positive_of, once_by, is_subrow, subrow_at, subrow_of, key_of, by_key, inner_of, pitch_in, closed, row_of}

@@ -1,5 +1,5 @@
 -- What the rows reader answers, by its form, and how many records there are.
-use Rattle.std.proofs.Common.{◌≡◌, ℕ, ◌+◌, ◌≤◌, ◌==◌, Bool, true, false, if◌then◌else◌, List, [], ◌∷◌, length, map, is_some, Option, Some, None, Result, Ok, Err, inl, inr, refl, sym, ap, subst, ◌∙◌, arith}
+use Rattle.std.proofs.Common.{◌≡◌, ℕ, ◌+◌, ◌≤◌, ◌==◌, Bool, true, false, if◌then◌else◌, List, [], ◌∷◌, length, map, is_some, Option, Some, None, Result, Ok, Err, inr, refl, sym, ap, subst, ◌∙◌, arith}
 use Rattle.std.specs.List.{sum_by}
 use Rattle.std.proofs.lemmas.List.{length-map}
 use Rattle.std.proofs.lemmas.List.Sums.{sum_by-cons}
@@ -10,7 +10,7 @@ use Rattle.book_files.specs.declared.records.RowBlock.{RowBlock}
 use Rattle.book_files.specs.declared.row_block.BlockSoFar.{BlockSoFar}
 use Rattle.book_files.specs.declared.rows.RowsSoFar.{RowsSoFar}
 use Rattle.book_files.specs.Form.{Reads, FirstFault}
-use Rattle.book_files.specs.Words.{latest, last_of}
+use Rattle.book_files.specs.Words.{latest}
 use Rattle.book_files.specs.Groups.{Group}
 use Rattle.book_files.specs.Entries.{RowEntry}
 use Rattle.book_files.specs.Blocks.{row_entry, row_entries}

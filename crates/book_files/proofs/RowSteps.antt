@@ -1,12 +1,12 @@
 -- The steps of the rows reader.
 use Rattle.std.proofs.Common.{◌≡◌, ℕ, Bool, true, false, List, [], ◌∷◌, ◌++◌, map, is_some, ℤ, Option, Some, None, Result, Ok, Err, codes, if◌then◌else◌, refl, sym, ap, subst, ◌∙◌}
 use Rattle.std.specs.Result.{IsErr, IsErrAnd}
-use Rattle.std.specs.List.{AllByRecursion, filter_map}
+use Rattle.std.specs.List.{filter_map}
 use Rattle.std.proofs.lemmas.Bool.{cond-true, cond-false}
 use Rattle.std.proofs.lemmas.List.{map-append}
 use Rattle.book_text.specs.Lines.{NumberedLine}
 use Rattle.book_files.specs.declared.fault.TextKind.{TextKind}
-use Rattle.book_files.specs.declared.fault.TextKind.TheVariants.{BadHeader, BadLine}
+use Rattle.book_files.specs.declared.fault.TextKind.TheVariants.{BadHeader}
 use Rattle.book_files.specs.declared.fault.LineError.{LineError}
 use Rattle.book_files.specs.declared.fault.LineError.TheVariants.{Kind, Memory}
 use Rattle.book_files.specs.declared.records.RowBlock.{RowBlock}
@@ -17,7 +17,7 @@ use Rattle.book_files.specs.Groups.{Group}
 use Rattle.book_files.specs.Entries.{SubrowEntry, RowEntry}
 use Rattle.book_files.specs.Blocks.{row_entry, row_entries}
 use Rattle.book_files.specs.Ranges.{IsRowInRange}
-use Rattle.book_files.specs.Rows.{RowPart, coordinate, height, site_width, site_spacing, site_orient, site_symmetry, subrow, ended, RowItem, header, total, begun, part, total_in, begun_in, part_in, coordinate_in, height_in, width_in, spacing_in, orient_in, symmetry_in, subrow_in, end_in, has, unless_ended, open_in, open_block, blocks_in, is_row_start, is_row_end, BlockTold, nothing_told, told_by, told_with, inner_of, row_of, closed, pitch_in, part_of, outside_of, within_or_outside, row_meaning, or_zero, pitch_of, entry_of_row, row_form}
+use Rattle.book_files.specs.Rows.{RowPart, coordinate, height, site_width, site_spacing, site_orient, site_symmetry, subrow, ended, RowItem, header, total, begun, part, total_in, begun_in, part_in, coordinate_in, height_in, width_in, spacing_in, orient_in, symmetry_in, subrow_in, end_in, open_in, open_block, blocks_in, is_row_start, is_row_end, BlockTold, nothing_told, told_by, told_with, inner_of, row_of, closed, pitch_in, part_of, outside_of, within_or_outside, row_meaning, or_zero, pitch_of, entry_of_row, row_form}
 use Rattle.book_files.specs.Progress.{StandsFor, Refuses, Keeps}
 use Rattle.book_files.specs.SoFar.{has_items}
 use Rattle.book_files.specs.RowProgress.{block_told, IsToldInRange, HasPart, IsOneMore, HasOpen, AreEnded, AreBlocks, IsRowsSoFar}

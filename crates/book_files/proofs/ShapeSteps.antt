@@ -1,7 +1,6 @@
 -- From what the code decides of a line to what the rules name: numbers, count lines, the header, and lines of a shape.
-use Rattle.std.proofs.Common.{◌≡◌, ℕ, Bool, true, false, if◌then◌else◌, ◌≢◌, ◌==◌, List, [], ◌∷◌, length, map, filter_map, IsTrue, IsFalse, ℤ, pos, int_lt, ◌≤ℤ◌, Option, Some, None, is_some, Result, Ok, Err, refl, sym, ap, subst, ◌∙◌, arith}
+use Rattle.std.proofs.Common.{◌≡◌, ℕ, Bool, true, false, if◌then◌else◌, ◌≢◌, ◌==◌, List, [], ◌∷◌, length, map, filter_map, IsTrue, IsFalse, pos, int_lt, ◌≤ℤ◌, Option, Some, None, is_some, Result, Ok, Err, refl, sym, ap, subst, ◌∙◌, arith}
 use Rattle.std.specs.Char.{to_ascii_lowercase}
-use Rattle.std.specs.Str.{bytes_eq}
 use Rattle.std.proofs.lemmas.Bool.{and_parts, cond-true, cond-false, eqb-true, eqb-false, eq-eqb, ne_eqb}
 use Rattle.std.proofs.lemmas.Int.{ints}
 use Rattle.std.proofs.lemmas.Slice.Eq.{bytes_eq-Decides}

@@ -6,7 +6,7 @@ use Rattle.book_files.specs.declared.fault.TextKind.TheVariants.{BadHeader, BadL
 use Rattle.book_files.specs.Grammar.{Grammar}
 use Rattle.book_files.specs.Groups.{Group}
 use Rattle.book_files.specs.Words.{latest, is_header, is_keyed, is_colon_word}
-use Rattle.book_files.specs.Shapes.{word_at, IsWhole, IsNumber, HasWhole, HasNumber, IsOnceShape, IsHeaderLine}
+use Rattle.book_files.specs.Shapes.{word_at, IsWhole, IsNumber, HasWhole, IsOnceShape, IsHeaderLine}
 use Rattle.book_files.specs.Entries.{PinEntry, NetEntry}
 use Rattle.book_files.specs.Nets.{NetHead, NetItem, header, total, pin_total, net, pin, total_in, pin_total_in, pin_in, nets_in, open_net, is_direction, entry_of_net}
 

@@ -1,5 +1,5 @@
 -- What holds of the records of a file: the ranges of their numbers, and that the name of a node is a word that begins no comment.
-use Rattle.std.specs.Prelude.{◌^◌, ◌≤◌, ℕ, List, map, length, ℤ, pos, neg_ℤ, ◌≤ℤ◌, ◌<ℤ◌, IsFalse}
+use Rattle.std.specs.Prelude.{◌^◌, ◌≤◌, ℕ, List, length, ℤ, pos, neg_ℤ, ◌≤ℤ◌, ◌<ℤ◌, IsFalse}
 use Rattle.std.specs.List.{AllByRecursion, sum_by}
 use Rattle.book_text.specs.Lines.{IsWord, is_comment_word}
 use Rattle.book_files.specs.Entries.{NodeEntry, WeightEntry, PlaceEntry, PinEntry, NetEntry, SubrowEntry, RowEntry}

@@ -1,5 +1,5 @@
 -- What the reader of a rows file keeps of the lines before.
-use Rattle.std.specs.Prelude.{◌≡◌, ℕ, Bool, false, List, [], ◌∷◌, ◌++◌, length, map, ◌==◌, is_some, ℤ, pos, ◌<ℤ◌, Option, Some, None, option_map, Result, Ok, Err, if◌then◌else◌}
+use Rattle.std.specs.Prelude.{◌≡◌, ℕ, false, List, [], ◌∷◌, ◌++◌, length, map, ◌==◌, is_some, ℤ, pos, ◌<ℤ◌, Option, Some, None, option_map, Result, Ok, Err, if◌then◌else◌}
 use Rattle.std.specs.List.{AllByRecursion}
 use Rattle.std.specs.Option.{IfSome}
 use Rattle.book_files.specs.declared.fault.TextKind.{TextKind}

@@ -1,12 +1,12 @@
 -- The rules of the rows file: a header, the number of rows, and row blocks with subrows.
-use Rattle.std.specs.Prelude.{◌≡◌, ◌≢◌, ◌⊎◌, ℕ, List, [], ◌∷◌, length, map, codes, IsTrue, ℤ, Option, Some, None}
+use Rattle.std.specs.Prelude.{◌≡◌, ◌≢◌, ◌⊎◌, ℕ, List, [], length, map, codes, IsTrue, Option, Some, None}
 use Rattle.book_text.specs.Lines.{NumberedLine}
 use Rattle.book_files.specs.declared.fault.TextKind.{TextKind}
 use Rattle.book_files.specs.declared.fault.TextKind.TheVariants.{BadHeader, BadLine, BadNumber, CountMismatch}
 use Rattle.book_files.specs.Grammar.{Grammar}
 use Rattle.book_files.specs.Words.{latest, is_keyed, is_keyword, is_colon_word}
 use Rattle.book_files.specs.Shapes.{word_at, IsWhole, IsNumber, IsPositive, HasWhole, HasNumber, HasPositive, IsOnceShape, IsHeaderLine, IsShapeFault}
-use Rattle.book_files.specs.Entries.{SubrowEntry, RowEntry}
+use Rattle.book_files.specs.Entries.{RowEntry}
 use Rattle.book_files.specs.Rows.{RowPart, coordinate, height, site_width, site_spacing, site_orient, site_symmetry, subrow, ended, RowItem, header, total, begun, part, total_in, coordinate_in, height_in, width_in, spacing_in, orient_in, symmetry_in, open_block, blocks_in, is_row_start, is_row_end, entry_of_row}
 
 -- `SubrowOrigin : x NumSites : n`

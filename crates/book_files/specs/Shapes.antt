@@ -1,5 +1,5 @@
 -- Words of a line by place, numbers that words spell, and the shapes that several files share.
-use Rattle.std.specs.Prelude.{◌≡◌, ℕ, Bool, List, [], ◌∷◌, length, slice_index_or, codes, IsTrue, IsFalse, ℤ, pos, ◌≤ℤ◌, ◌<ℤ◌, Option, None, Ok}
+use Rattle.std.specs.Prelude.{◌≡◌, ℕ, List, [], ◌∷◌, length, slice_index_or, IsTrue, IsFalse, ℤ, pos, ◌≤ℤ◌, ◌<ℤ◌, Option, None, Ok}
 use Rattle.book_text.specs.Lines.{NumberedLine}
 use Rattle.book_text.specs.Whole.{whole_value}
 use Rattle.book_text.specs.Decimal.{micro_value}
