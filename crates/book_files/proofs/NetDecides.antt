@@ -135,7 +135,8 @@ pin_judged number (node ∷ direction ∷ colon ∷ x ∷ y ∷ []) = at (is_dir
       → PinJudged number (node ∷ direction ∷ colon ∷ x ∷ y ∷ []) (if a then (if b then offset_pin number node x y else Err BadLine) else Err BadLine)
   at true true directed colons = let words = node ∷ direction ∷ colon ∷ x ∷ y ∷ [] in
       judges_bind (IsPinShape words) (HasOffset words) (IsPinEntry number words) (IsNumber x) (number_of x) _ (directed, colons) (tells_number x) (λ has. (has.0, has.2.0)) (λ dx is_dx.
-      judges_bind (IsPinShape words) (HasOffset words) (IsPinEntry number words) (IsNumber y) (number_of y) (λ dy. Ok (record { line = number; node = node; dx = dx; dy = dy })) (directed, colons) (tells_number y)
+      judges_bind (IsPinShape words) (HasOffset words) (IsPinEntry number words) (IsNumber y) (number_of y)
+      (λ dy. Ok (record { line = number; node = node; dx = dx; dy = dy })) (directed, colons) (tells_number y)
       (λ has. (has.1, has.2.1)) (λ dy is_dy. ((directed, colons), (dx, dy, (is_dx, is_dy)), record { line = refl; node = refl; offset = (is_dx, is_dy) })))
   at true false directed colons = λ shape. let e = shape.1 in cc
   at false b directed colons = λ shape. let e = shape.0 in cc
@@ -203,15 +204,17 @@ module _ (first : NetItem) (rest : List NetItem) (line : NumberedLine) where
   total_judged : IsTrue (is_keyed (codes "numnets") line.words) → Judged (first ∷ rest) line (count_of (is_some (latest total_in (first ∷ rest))) line.words >>= λ n. Ok (total n))
   total_judged keyed = let is_keyed_one = keyed_line-nets line.words keyed in
       by_shape _ (not_start (nets_not_start line.words keyed)) is_keyed_one
-      (judges_map (IsOnceShape (codes "numnets") total_in (first ∷ rest) line.words) (HasWhole (word_at line.words 2)) (IsWhole (word_at line.words 2)) (HasNetsShape (first ∷ rest) line.words) (HasNetsNumbers line.words) (IsNetsItem (first ∷ rest) line) total
-      (count_of (is_some (latest total_in (first ∷ rest))) line.words) (λ shape. inl shape) (total_shape keyed) (λ shape whole. numbers_of is_keyed_one whole) (λ shape numbers. numbers.count is_keyed_one)
+      (judges_map (IsOnceShape (codes "numnets") total_in (first ∷ rest) line.words) (HasWhole (word_at line.words 2)) (IsWhole (word_at line.words 2))
+      (HasNetsShape (first ∷ rest) line.words) (HasNetsNumbers line.words) (IsNetsItem (first ∷ rest) line) total (count_of (is_some (latest total_in (first ∷ rest))) line.words)
+      (λ shape. inl shape) (total_shape keyed) (λ shape whole. numbers_of is_keyed_one whole) (λ shape numbers. numbers.count is_keyed_one)
       (λ n shape is. (not_first, shape, is)) (count_judged (codes "numnets") total_in (first ∷ rest) line.words keyed))
 
   pin_total_judged : IsTrue (is_keyed (codes "numpins") line.words) → Judged (first ∷ rest) line (count_of (is_some (latest pin_total_in (first ∷ rest))) line.words >>= λ p. Ok (pin_total p))
   pin_total_judged keyed = let is_keyed_one = keyed_line-pins line.words keyed in
       by_shape _ (not_start (pins_not_start line.words keyed)) is_keyed_one
-      (judges_map (IsOnceShape (codes "numpins") pin_total_in (first ∷ rest) line.words) (HasWhole (word_at line.words 2)) (IsWhole (word_at line.words 2)) (HasNetsShape (first ∷ rest) line.words) (HasNetsNumbers line.words) (IsNetsItem (first ∷ rest) line) pin_total
-      (count_of (is_some (latest pin_total_in (first ∷ rest))) line.words) (λ shape. inr (inl shape)) (pin_total_shape keyed) (λ shape whole. numbers_of is_keyed_one whole) (λ shape numbers. numbers.count is_keyed_one)
+      (judges_map (IsOnceShape (codes "numpins") pin_total_in (first ∷ rest) line.words) (HasWhole (word_at line.words 2)) (IsWhole (word_at line.words 2))
+      (HasNetsShape (first ∷ rest) line.words) (HasNetsNumbers line.words) (IsNetsItem (first ∷ rest) line) pin_total (count_of (is_some (latest pin_total_in (first ∷ rest))) line.words)
+      (λ shape. inr (inl shape)) (pin_total_shape keyed) (λ shape whole. numbers_of is_keyed_one whole) (λ shape numbers. numbers.count is_keyed_one)
       (λ p shape is. (not_first, shape, is)) (count_judged (codes "numpins") pin_total_in (first ∷ rest) line.words keyed))
 
 -- a line that starts a net
@@ -240,13 +243,13 @@ module _ (first : NetItem) (rest : List NetItem) (number : ℕ) where
   head_judged (key ∷ colon ∷ []) keyed whole = λ shape. other_length (key ∷ colon ∷ []) (net_shape first rest (line_of (key ∷ colon ∷ [])) keyed shape) (λ e. omega arith) (λ e. omega arith)
   head_judged (key ∷ colon ∷ degree ∷ []) keyed whole = let words = key ∷ colon ∷ degree ∷ [] in
       let shape : HasNetsShape (first ∷ rest) words = inr (inr (inl (None, (keyed, refl)))) in
-      judges_bind (HasNetsShape (first ∷ rest) words) (HasNetsNumbers words) (IsNetsItem (first ∷ rest) (line_of words)) (IsWhole degree) (whole_of degree) (λ k. Ok (net (record { degree = k; name = None })))
-      shape (tells_whole degree) (λ numbers. numbers.count (keyed_line-start words keyed))
+      judges_bind (HasNetsShape (first ∷ rest) words) (HasNetsNumbers words) (IsNetsItem (first ∷ rest) (line_of words))
+      (IsWhole degree) (whole_of degree) (λ k. Ok (net (record { degree = k; name = None }))) shape (tells_whole degree) (λ numbers. numbers.count (keyed_line-start words keyed))
       (λ k is. (shape, numbers_of first rest (line_of words) (keyed_line-start words keyed) (k, is), (λ e. cc, record { shape = (keyed, refl); degree = is; whole = whole })))
   head_judged (key ∷ colon ∷ degree ∷ name ∷ []) keyed whole = let words = key ∷ colon ∷ degree ∷ name ∷ [] in
       let shape : HasNetsShape (first ∷ rest) words = inr (inr (inl (Some name, (keyed, refl, refl)))) in
-      judges_bind (HasNetsShape (first ∷ rest) words) (HasNetsNumbers words) (IsNetsItem (first ∷ rest) (line_of words)) (IsWhole degree) (whole_of degree) (λ k. Ok (net (record { degree = k; name = Some name })))
-      shape (tells_whole degree) (λ numbers. numbers.count (keyed_line-start words keyed))
+      judges_bind (HasNetsShape (first ∷ rest) words) (HasNetsNumbers words) (IsNetsItem (first ∷ rest) (line_of words))
+      (IsWhole degree) (whole_of degree) (λ k. Ok (net (record { degree = k; name = Some name }))) shape (tells_whole degree) (λ numbers. numbers.count (keyed_line-start words keyed))
       (λ k is. (shape, numbers_of first rest (line_of words) (keyed_line-start words keyed) (k, is), (λ e. cc, record { shape = (keyed, refl, refl); degree = is; whole = whole })))
   head_judged (key ∷ colon ∷ degree ∷ name ∷ more ∷ others) keyed whole = let words = key ∷ colon ∷ degree ∷ name ∷ more ∷ others in
       λ shape. other_length words (net_shape first rest (line_of words) keyed shape) (λ e. omega arith) (λ e. omega arith)
@@ -255,7 +258,8 @@ module _ (first : NetItem) (rest : List NetItem) (line : NumberedLine) where
   start_judged : IsTrue (is_net_start line.words) → Judged (first ∷ rest) line (unless_short (open_net (first ∷ rest)) >>= λ done. head_of line.words)
   start_judged keyed = at (unless_short (open_net (first ∷ rest))) (short_told (first ∷ rest)) where
     at : (r : Result (Unit {0}) TextKind) → ShortIs (first ∷ rest) r → Judged (first ∷ rest) line (r >>= λ done. head_of line.words)
-    at (Ok done) whole = by_shape first rest line (head_of line.words) (λ told found short. whole told found short.1) (keyed_line-start line.words keyed) (head_judged first rest line.number line.words keyed whole)
+    at (Ok done) whole = by_shape first rest line (head_of line.words) (λ told found short. whole told found short.1) (keyed_line-start line.words keyed)
+        (head_judged first rest line.number line.words keyed whole)
     at (Err BadHeader) short = absurd short
     at (Err BadLine) short = absurd short
     at (Err BadNumber) short = absurd short
@@ -272,7 +276,8 @@ module _ (first : NetItem) (rest : List NetItem) (line : NumberedLine) where
     numbers_in : HasOffset line.words → HasNetsNumbers line.words
     numbers_in offset = record { count = λ keyed. let no_key = other_line line.words other in cc; offset = λ _. offset }
 
-    in_net : (last : Group NetHead PinEntry) → open_net (first ∷ rest) ≡ Some last → (b : Bool) → nat_lt (length last.parts) last.head.degree ≡ b → (r : Result PinEntry TextKind) → PinJudged line.number line.words r
+    in_net : (last : Group NetHead PinEntry) → open_net (first ∷ rest) ≡ Some last → (b : Bool) → nat_lt (length last.parts) last.head.degree ≡ b
+        → (r : Result PinEntry TextKind) → PinJudged line.number line.words r
         → Judged (first ∷ rest) line (r >>= λ entry. if b then Ok (pin entry) else Err (CountMismatch last.head.degree (last.head.degree + 1)))
     in_net last is true less (Ok entry) j = let room = ltb-true (length last.parts) last.head.degree less in (
       early,
@@ -382,7 +387,8 @@ pin_back number (node ∷ direction ∷ []) entry shape is = cond-true (is_direc
 pin_back number (node ∷ direction ∷ colon ∷ []) entry shape is = absurd shape
 pin_back number (node ∷ direction ∷ colon ∷ x ∷ []) entry shape is = absurd shape
 pin_back number (node ∷ direction ∷ colon ∷ x ∷ y ∷ []) entry shape is = cond-true (is_direction direction) _ _ shape.0 ∙ (cond-true (is_colon_word colon) _ _ shape.1
-    ∙ rw ((tells_number x).back entry.dx is.offset.0, (tells_number y).back entry.dy is.offset.1) (ap Ok (sym (same_pin entry (record { line = number; node = node; dx = entry.dx; dy = entry.dy }) is.line is.node refl refl))))
+    ∙ rw ((tells_number x).back entry.dx is.offset.0, (tells_number y).back entry.dy is.offset.1)
+    (ap Ok (sym (same_pin entry (record { line = number; node = node; dx = entry.dx; dy = entry.dy }) is.line is.node refl refl))))
 pin_back number (node ∷ direction ∷ colon ∷ x ∷ y ∷ more ∷ rest) entry shape is = absurd shape
 
 item_back : (before : List NetItem) (line : NumberedLine) (told : NetItem) → IsNetsItem before line told → net_meaning before line ≡ Ok told

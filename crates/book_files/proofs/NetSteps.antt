@@ -165,7 +165,8 @@ pub ending_so_far : (items : List NetItem) (so_far : NetsSoFar) → IsNetsSoFar 
     → net_ending items ≡ (at_end so_far >>= λ done. Ok (all_entries so_far))
 ending_so_far items so_far is few = at so_far.begun refl where
   at : (b : Bool) → so_far.begun ≡ b → net_ending items
-      ≡ ((if b then (unless_short (option_map open_group so_far.current) >>= λ done. both_counted so_far.total so_far.pin_total (length (all_entries so_far)) so_far.pins_found) else Err BadHeader) >>= λ done. Ok (all_entries so_far))
+      ≡ ((if b then (unless_short (option_map open_group so_far.current) >>= λ done. both_counted so_far.total so_far.pin_total (length (all_entries so_far)) so_far.pins_found) else Err BadHeader)
+      >>= λ done. Ok (all_entries so_far))
   at false none = ending_first items (sym is.begun ∙ none)
   at true some = ending_begun items (sym is.begun ∙ some)
       ∙ (rw (is.last, ← is.total, ← is.pin_total, ← is.pins few, ← entries_so_far items so_far is)

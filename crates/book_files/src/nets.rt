@@ -93,7 +93,10 @@ impl<'a> NetFile<'a> {
     }
 }
 
-/// The nets that a `.nets` file has, or its first fault.
+/// The nets that a `.nets` file has, or its first fault. Offsets are in millionths.
+///
+/// Each net has as many pins as it was told to have, and the nets and the pins are as many as the
+/// count lines tell.
 pub fn read_nets(alloc: Global, bytes: &[u8]) -> Result<NetFile<'_>, ReadError>
     ensures reading { Answers nets_grammar (λ file. file) bytes.now result }
     ensures few { IfOk result (λ file. length file + pin_count file ≤ length bytes.now) }
@@ -162,8 +165,8 @@ impl<'a> OpenNet<'a> {
     }
 }
 
-/// Whether the header was read, which counts were told, how many pins were found, and the nets, of which the last may be
-/// open.
+/// Whether the header was read, which counts were told, how many pins were found, and the nets, of
+/// which the last is open.
 #[derive(Drop)]
 struct NetsSoFar<'a> {
     alloc: Global,
@@ -221,7 +224,7 @@ impl<'a> NetsSoFar<'a> {
         }
     }
 
-    /// All nets.
+    /// All nets, the open one last.
     fn into_blocks(self) -> Result<Vec<NetBlock<'a>>, AllocFailed<NetBlock<'a>>>
         ensures { IfOk result (λ blocks. net_entries blocks.items ≡ all_entries self.entry) }
     {
@@ -254,6 +257,7 @@ impl<'a> Progress<'a> for NetsSoFar<'a> {
             self.begin(words)?;
         } else {
             keep_pin(&mut self.current, number, words)?;
+            // A text has fewer pins than would stop the count.
             self.pins_found = self.pins_found.saturating_add(1);
         }
         Ok(())
@@ -281,7 +285,8 @@ fn close<'a>(
     current: Option<OpenNet<'a>>,
 ) -> Result<(), AllocFailed<NetBlock<'a>>>
     ensures { OnOk result
-        (net_entries closed.new.items ≡ net_entries closed.old.items ++ open_entries current.entry) }
+        (net_entries closed.new.items
+        ≡ net_entries closed.old.items ++ open_entries current.entry) }
 {
     match current {
         None => Ok(()),
