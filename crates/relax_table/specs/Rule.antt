@@ -1,5 +1,5 @@
 -- The rule of a table over its words, its start and the views of all seats, and what each step tells.
-use Rattle.std.specs.Prelude.{◌≡◌, ℕ, ◌+◌, ◌≤◌, List, [], ◌∷◌, length, map, slice_set, sum_by, Bool, true, false}
+use Rattle.std.specs.Prelude.{◌≡◌, ℕ, ◌+◌, ◌≤◌, List, [], map, sum_by, true, false}
 use Rattle.std.specs.List.{slice_index, zip}
 use mathlib.Core.Option.{some}
 use lib.ListN.{get_elem?}
@@ -8,7 +8,7 @@ use Rattle.relax_system.specs.declared.side.Side.{Side}
 use Rattle.relax_system.specs.declared.points.Point.{Point}
 use Rattle.relax_system.specs.System.{IsValid}
 use Rattle.relax_system.specs.Means.{InBoxes}
-use Rattle.relax_system.specs.Sides.{Before, AllBefore, mean_of}
+use Rattle.relax_system.specs.Sides.{Before, AllBefore}
 use Rattle.relax_table.specs.declared.rule.View.{View}
 use Rattle.relax_table.specs.Ways.{further_of, is_past, one_if, distance, IsBound}
 use Rattle.relax_table.specs.Step.{Kind, word_after, seen_after}

@@ -1,6 +1,5 @@
 -- What clauses see of a table and of a seat.
-use Rattle.std.specs.Prelude.{◌≡◌, ◌≢◌, ℕ, ◌+◌, ◌-◌, ◌*◌, ◌<◌, ◌≤◌, List, length, take, drop, sum_by, All}
-use Rattle.std.specs.List.{slice_index}
+use Rattle.std.specs.Prelude.{◌≡◌, ◌≢◌, ℕ, ◌+◌, ◌-◌, ◌≤◌, List, length, take, drop, sum_by, All}
 use Rattle.atomic_table.specs.Seated.{TableId}
 use Rattle.relax_system.specs.declared.side.Side.{Side}
 use Rattle.relax_system.specs.declared.points.Point.{Point}
@@ -40,11 +39,18 @@ pub record IsSound (side : Side) (s : SeatState) : Type 0 where
   pub first : (u : List ℕ) → IsBound side s.system u → AllBefore side s.seen u
   pub paid : (u : List ℕ) → IsBound side s.system u → s.moves ≤ distance side s.start u
 
+-- no count fell
+pub record CountsOn (old new : SeatState) : Type 0 where
+  pub loads : old.loads ≤ new.loads
+  pub fetches : old.fetches ≤ new.fetches
+  pub moves : old.moves ≤ new.moves
+
 -- A call left the seat at its table, with no entry back on its way.
 pub record Advances (side : Side) (old new : SeatState) : Type 0 where
   pub same_table : new.table ≡ old.table
   pub same_system : new.system ≡ old.system
   pub same_start : new.start ≡ old.start
+  pub counts : CountsOn old new
   pub further : AllBefore side old.seen new.seen
   pub sound : IsSound side new
 

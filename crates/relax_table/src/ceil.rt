@@ -4,7 +4,10 @@ ghost use Rattle.std.specs.Prelude.{◌≡◌, ◌≢◌, ℕ, ◌+◌, ◌*◌,
 ghost use Rattle.relax_system.specs.Means.{ceil_mean, InBoxes, IsPostFixed};
 ghost use Rattle.relax_system.specs.Extremal.{IsGreatest};
 ghost use Rattle.relax_system.specs.System.{point_at};
+ghost use Rattle.relax_system.specs.declared.side.Side.TheVariants.{Ceil};
 ghost use Rattle.relax_table.specs.Ways.{one_if};
+ghost use Rattle.relax_table.specs.Step.{word_after, seen_after};
+ghost use Rattle.relax_table.specs.Step.Kind.{Load, Renew};
 ghost use Rattle.relax_table.specs.Seats.{IsSeatOf, IsNoNeighbour, sweep_steps};
 ghost use Rattle.relax_table.specs.Ceil.{IsCeilStart, fall, IsAboveGreatest, Falls};
 
@@ -28,6 +31,7 @@ pub type Lowered = Renewal;
 
 impl SideSeat<Down> {
     /// What the seat has seen: one coordinate per point. Where it is post-fixed, it is the greatest vector.
+    #[tactic(auto, using(crate::proofs::Literal::above_greatest))]
     pub fn seen(&self) -> &[u64]
         ensures seen { result.now ≡ self.now.seen }
         ensures above { IsAboveGreatest self.now }
@@ -37,6 +41,7 @@ impl SideSeat<Down> {
     }
 
     /// How many fetches of this seat, and of those that were joined to it, lowered a word.
+    #[tactic(auto, using(crate::proofs::Literal::above_greatest))]
     pub fn lowers(&self) -> u64
         ensures lowers { result ≡ self.now.moves }
         ensures bound { (v : List ℕ) → IsGreatest self.now.system v → result ≤ fall self.now.start v }
@@ -48,6 +53,7 @@ impl SideSeat<Down> {
 
 impl<'a> SideTable<'a, Down> {
     /// A table whose words are the start's entries, and its first seat. Only want of memory is refused.
+    #[tactic(auto, using(crate::proofs::Literal::above_greatest))]
     pub fn new(
         alloc: Global,
         system: &'a System,
@@ -64,6 +70,7 @@ impl<'a> SideTable<'a, Down> {
 
     /// A second seat, which has seen what this one has and has no lowers. Only want of memory is refused, and then this
     /// seat is as before.
+    #[tactic(auto, using(crate::proofs::Literal::above_greatest))]
     pub fn split(&self, seat: &mut CeilSeat) -> Result<CeilSeat, Memory>
         requires { IsSeatOf self.now seat.old }
         ensures same { seat.new ≡ seat.old }
@@ -75,6 +82,7 @@ impl<'a> SideTable<'a, Down> {
     }
 
     /// One seat of two: what it has seen is the smaller of both in each entry, and its counts are the sums.
+    #[tactic(auto, using(crate::proofs::Literal::falls_of))]
     pub fn join_seats(&self, seat: CeilSeat, other: CeilSeat) -> CeilSeat
         requires own { IsSeatOf self.now seat }
         requires other { IsSeatOf self.now other }
@@ -89,12 +97,14 @@ impl<'a> SideTable<'a, Down> {
     }
 
     /// One load. The answer is the word found, and the seat's entry `i`.
+    #[tactic(auto, using(crate::proofs::Literal::falls_of))]
     pub fn look<L: Ledger>(&self, seat: &mut CeilSeat, i: usize, steps: &mut Steps<L>) -> u64
         requires own { IsSeatOf self.now seat.old }
         requires point { i < length self.now.system }
         ensures own { IsSeatOf self.now seat.new }
         ensures falls { Falls seat.old seat.new }
         ensures seen { seat.new.seen ≡ slice_set seat.old.seen i result }
+        ensures step { seat.new.seen ≡ seen_after Ceil self.now.system Load i result seat.old.seen }
         ensures entry { slice_index seat.new.seen i ≡ result }
         ensures counts { (seat.new.loads ≡ seat.old.loads + 1) × (seat.new.fetches ≡ seat.old.fetches) × (seat.new.moves ≡ seat.old.moves) }
         ensures steps { steps.new ≡ steps.old + 1 }
@@ -103,6 +113,7 @@ impl<'a> SideTable<'a, Down> {
     }
 
     /// One `fetch_min` of the point's rounded-up mean of what the seat has seen.
+    #[tactic(auto, using(crate::proofs::Literal::falls_of))]
     pub fn lower<L: Ledger>(&self, seat: &mut CeilSeat, i: usize, steps: &mut Steps<L>) -> Lowered
         requires own { IsSeatOf self.now seat.old }
         requires point { i < length self.now.system }
@@ -111,6 +122,7 @@ impl<'a> SideTable<'a, Down> {
         ensures found { result.old ≤ slice_index seat.old.seen i }
         ensures new { result.new ≡ min result.old (ceil_mean self.now.system i seat.old.seen) }
         ensures seen { seat.new.seen ≡ slice_set seat.old.seen i result.new }
+        ensures step { (result.new ≡ word_after Ceil self.now.system Renew i result.old seat.old.seen) × (seat.new.seen ≡ seen_after Ceil self.now.system Renew i result.old seat.old.seen) }
         ensures entry { slice_index seat.new.seen i ≡ result.new }
         ensures counts { (seat.new.loads ≡ seat.old.loads) × (seat.new.fetches ≡ seat.old.fetches + 1) }
         ensures lowers { seat.new.moves ≡ seat.old.moves + one_if (nat_lt result.new result.old) }
@@ -120,6 +132,7 @@ impl<'a> SideTable<'a, Down> {
     }
 
     /// A look at each neighbour of a point, and then a lower. The point is quiet afterwards.
+    #[tactic(auto, using(crate::proofs::Literal::falls_of))]
     pub fn relax<L: Ledger>(&self, seat: &mut CeilSeat, i: usize, steps: &mut Steps<L>) -> Lowered
         requires own { IsSeatOf self.now seat.old }
         requires point { i < length self.now.system }
@@ -139,6 +152,7 @@ impl<'a> SideTable<'a, Down> {
 
     /// Relaxes the points from `from` to before `to` until they are quiet in what the seat has seen, whatever other seats do.
     /// It takes at most H + 2 sweeps, where H is how far the greatest vector lies below the start, all entries together.
+    #[tactic(auto, using(crate::proofs::Literal::falls_of))]
     pub fn settle_range<L: Ledger>(
         &self,
         seat: &mut CeilSeat,
@@ -160,6 +174,7 @@ impl<'a> SideTable<'a, Down> {
 
     /// Relaxes all points until the seat has seen the greatest vector, whatever other seats do. It takes at most H + 2 sweeps,
     /// where H is how far that vector lies below the start, all entries together.
+    #[tactic(auto, using(crate::proofs::Literal::falls_of))]
     pub fn settle<L: Ledger>(&self, seat: &mut CeilSeat, steps: &mut Steps<L>)
         requires { IsSeatOf self.now seat.old }
         ensures own { IsSeatOf self.now seat.new }

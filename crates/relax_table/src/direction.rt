@@ -6,7 +6,7 @@ ghost use Rattle.relax_system.specs.declared.side.Side.TheVariants.{Floor, Ceil}
 ghost use Rattle.relax_system.specs.Sides.{mean_of};
 ghost use Rattle.relax_system.specs.Means.{InBoxes};
 ghost use Rattle.std.specs.Prelude.{◌<◌, length};
-ghost use Rattle.relax_table.specs.Ways.{further_of, is_past};
+ghost use Rattle.relax_table.specs.Ways.{further_of, is_past, one_if};
 
 use relax_system::{Side, System};
 
@@ -53,14 +53,14 @@ pub(crate) fn further(side: Side, a: u64, b: u64) -> u64
     }
 }
 
-/// Whether `b` stands past `a`.
+/// 1 where `b` stands past `a`, and else 0.
 #[inline(always)]
-pub(crate) fn passes(side: Side, a: u64, b: u64) -> bool
-    ensures { result ≡ is_past side a b }
+pub(crate) fn passes(side: Side, a: u64, b: u64) -> u64
+    ensures { result ≡ one_if (is_past side a b) }
 {
     match side {
-        Side::Floor => a < b,
-        Side::Ceil => b < a,
+        Side::Floor => u64::from(a < b),
+        Side::Ceil => u64::from(b < a),
     }
 }
 

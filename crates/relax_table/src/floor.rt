@@ -4,7 +4,10 @@ ghost use Rattle.std.specs.Prelude.{◌≡◌, ◌≢◌, ℕ, ◌+◌, ◌*◌,
 ghost use Rattle.relax_system.specs.Means.{floor_mean, InBoxes, IsPreFixed};
 ghost use Rattle.relax_system.specs.Extremal.{IsLeast};
 ghost use Rattle.relax_system.specs.System.{point_at};
+ghost use Rattle.relax_system.specs.declared.side.Side.TheVariants.{Floor};
 ghost use Rattle.relax_table.specs.Ways.{one_if};
+ghost use Rattle.relax_table.specs.Step.{word_after, seen_after};
+ghost use Rattle.relax_table.specs.Step.Kind.{Load, Renew};
 ghost use Rattle.relax_table.specs.Seats.{IsSeatOf, IsNoNeighbour, sweep_steps};
 ghost use Rattle.relax_table.specs.Floor.{IsFloorStart, rise, IsBelowLeast, Rises};
 
@@ -28,6 +31,7 @@ pub type Raised = Renewal;
 
 impl SideSeat<Up> {
     /// What the seat has seen: one coordinate per point. Where it is pre-fixed, it is the least vector.
+    #[tactic(auto, using(crate::proofs::Literal::below_least))]
     pub fn seen(&self) -> &[u64]
         ensures seen { result.now ≡ self.now.seen }
         ensures below { IsBelowLeast self.now }
@@ -37,6 +41,7 @@ impl SideSeat<Up> {
     }
 
     /// How many fetches of this seat, and of those that were joined to it, raised a word.
+    #[tactic(auto, using(crate::proofs::Literal::below_least))]
     pub fn raises(&self) -> u64
         ensures raises { result ≡ self.now.moves }
         ensures bound { (v : List ℕ) → IsLeast self.now.system v → result ≤ rise self.now.start v }
@@ -48,6 +53,7 @@ impl SideSeat<Up> {
 
 impl<'a> SideTable<'a, Up> {
     /// A table whose words are the start's entries, and its first seat. Only want of memory is refused.
+    #[tactic(auto, using(crate::proofs::Literal::below_least))]
     pub fn new(
         alloc: Global,
         system: &'a System,
@@ -64,6 +70,7 @@ impl<'a> SideTable<'a, Up> {
 
     /// A second seat, which has seen what this one has and has no raises. Only want of memory is refused, and then this
     /// seat is as before.
+    #[tactic(auto, using(crate::proofs::Literal::below_least))]
     pub fn split(&self, seat: &mut FloorSeat) -> Result<FloorSeat, Memory>
         requires { IsSeatOf self.now seat.old }
         ensures same { seat.new ≡ seat.old }
@@ -75,6 +82,7 @@ impl<'a> SideTable<'a, Up> {
     }
 
     /// One seat of two: what it has seen is the greater of both in each entry, and its counts are the sums.
+    #[tactic(auto, using(crate::proofs::Literal::rises_of))]
     pub fn join_seats(&self, seat: FloorSeat, other: FloorSeat) -> FloorSeat
         requires own { IsSeatOf self.now seat }
         requires other { IsSeatOf self.now other }
@@ -89,12 +97,14 @@ impl<'a> SideTable<'a, Up> {
     }
 
     /// One load. The answer is the word found, and the seat's entry `i`.
+    #[tactic(auto, using(crate::proofs::Literal::rises_of))]
     pub fn look<L: Ledger>(&self, seat: &mut FloorSeat, i: usize, steps: &mut Steps<L>) -> u64
         requires own { IsSeatOf self.now seat.old }
         requires point { i < length self.now.system }
         ensures own { IsSeatOf self.now seat.new }
         ensures rises { Rises seat.old seat.new }
         ensures seen { seat.new.seen ≡ slice_set seat.old.seen i result }
+        ensures step { seat.new.seen ≡ seen_after Floor self.now.system Load i result seat.old.seen }
         ensures entry { slice_index seat.new.seen i ≡ result }
         ensures counts { (seat.new.loads ≡ seat.old.loads + 1) × (seat.new.fetches ≡ seat.old.fetches) × (seat.new.moves ≡ seat.old.moves) }
         ensures steps { steps.new ≡ steps.old + 1 }
@@ -103,6 +113,7 @@ impl<'a> SideTable<'a, Up> {
     }
 
     /// One `fetch_max` of the point's rounded-down mean of what the seat has seen.
+    #[tactic(auto, using(crate::proofs::Literal::rises_of))]
     pub fn raise<L: Ledger>(&self, seat: &mut FloorSeat, i: usize, steps: &mut Steps<L>) -> Raised
         requires own { IsSeatOf self.now seat.old }
         requires point { i < length self.now.system }
@@ -111,6 +122,7 @@ impl<'a> SideTable<'a, Up> {
         ensures found { slice_index seat.old.seen i ≤ result.old }
         ensures new { result.new ≡ max result.old (floor_mean self.now.system i seat.old.seen) }
         ensures seen { seat.new.seen ≡ slice_set seat.old.seen i result.new }
+        ensures step { (result.new ≡ word_after Floor self.now.system Renew i result.old seat.old.seen) × (seat.new.seen ≡ seen_after Floor self.now.system Renew i result.old seat.old.seen) }
         ensures entry { slice_index seat.new.seen i ≡ result.new }
         ensures counts { (seat.new.loads ≡ seat.old.loads) × (seat.new.fetches ≡ seat.old.fetches + 1) }
         ensures raises { seat.new.moves ≡ seat.old.moves + one_if (nat_lt result.old result.new) }
@@ -120,6 +132,7 @@ impl<'a> SideTable<'a, Up> {
     }
 
     /// A look at each neighbour of a point, and then a raise. The point is quiet afterwards.
+    #[tactic(auto, using(crate::proofs::Literal::rises_of))]
     pub fn relax<L: Ledger>(&self, seat: &mut FloorSeat, i: usize, steps: &mut Steps<L>) -> Raised
         requires own { IsSeatOf self.now seat.old }
         requires point { i < length self.now.system }
@@ -139,6 +152,7 @@ impl<'a> SideTable<'a, Up> {
 
     /// Relaxes the points from `from` to before `to` until they are quiet in what the seat has seen, whatever other seats do.
     /// It takes at most H + 2 sweeps, where H is how far the least vector lies above the start, all entries together.
+    #[tactic(auto, using(crate::proofs::Literal::rises_of))]
     pub fn settle_range<L: Ledger>(
         &self,
         seat: &mut FloorSeat,
@@ -160,6 +174,7 @@ impl<'a> SideTable<'a, Up> {
 
     /// Relaxes all points until the seat has seen the least vector, whatever other seats do. It takes at most H + 2 sweeps,
     /// where H is how far that vector lies above the start, all entries together.
+    #[tactic(auto, using(crate::proofs::Literal::rises_of))]
     pub fn settle<L: Ledger>(&self, seat: &mut FloorSeat, steps: &mut Steps<L>)
         requires { IsSeatOf self.now seat.old }
         ensures own { IsSeatOf self.now seat.new }

@@ -74,9 +74,7 @@ impl<'a, D: Direction> SideTable<'a, D> {
         let old = self.fetch(&mut seat.seat, i, mean);
         let new = further(D::side(), old, mean);
         seat.seen[i] = new;
-        if passes(D::side(), old, new) {
-            seat.moves += 1;
-        }
+        seat.moves += passes(D::side(), old, new);
         steps.tick();
         Renewal { old, new }
     }
@@ -98,9 +96,8 @@ impl<'a, D: Direction> SideTable<'a, D> {
         for entry in self.system.point(i).near.as_slice() {
             let other = entry.point as usize;
             let before = seat.seen[other];
-            if self.load(seat, other, steps) != before {
-                moved = true;
-            }
+            let word = self.load(seat, other, steps);
+            moved = either(moved, differs(word, before));
         }
         moved
     }
@@ -127,10 +124,11 @@ impl<'a, D: Direction> SideTable<'a, D> {
         ensures moved { MatchBool result.moved (1 ≤ distance D.side seat.old.seen seat.new.seen) (seat.new.seen ≡ seat.old.seen) }
         ensures steps { steps.new ≡ steps.old + (length (point_at self.now.system i).near + 1) }
     {
+        seat.know();
         let looked = self.look_around(seat, i, steps);
         let before = seat.seen[i];
         let fetch = self.renew(seat, i, steps);
-        let moved = either(looked, fetch.new != before);
+        let moved = either(looked, differs(fetch.new, before));
         Relaxed { fetch, moved }
     }
 
@@ -153,8 +151,16 @@ impl<'a, D: Direction> SideTable<'a, D> {
 
 /// Whether one of the two holds.
 #[inline(always)]
-fn either(a: bool, b: bool) -> bool
+pub(crate) fn either(a: bool, b: bool) -> bool
     ensures { result ≡ (a || b) }
 {
     a || b
+}
+
+/// Whether the numbers differ.
+#[inline(always)]
+fn differs(a: u64, b: u64) -> bool
+    ensures { MatchBool result (a ≢ b) (a ≡ b) }
+{
+    a != b
 }

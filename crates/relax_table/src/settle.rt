@@ -5,6 +5,7 @@ ghost use Rattle.relax_table.specs.Seats.{IsSeatOf, Advances, sweep_steps};
 ghost use Rattle.relax_table.specs.Ways.{distance, IsBound, IsQuietIn};
 
 use crate::direction::Direction;
+use crate::relax::either;
 use crate::seat::SideSeat;
 use crate::steps::Steps;
 use crate::table::SideTable;
@@ -53,9 +54,7 @@ impl<'a, D: Direction> SideTable<'a, D> {
         seat.know();
         let mut moved = false;
         for i in from..to {
-            if self.relax_side(seat, i, steps).moved {
-                moved = true;
-            }
+            moved = either(moved, self.relax_side(seat, i, steps).moved);
         }
         moved
     }

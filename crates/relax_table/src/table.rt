@@ -1,10 +1,10 @@
 //! A table of one direction: how it is made, and how its seats are split and joined.
 
-ghost use Rattle.std.specs.Prelude.{◌≡◌, ◌+◌, ◌<◌, ◌≤◌, length, IfOk, OnOk, OnErr};
+ghost use Rattle.std.specs.Prelude.{◌≡◌, ◌+◌, ◌<◌, ◌≤◌, length, slice_index, IfOk, OnOk, OnErr};
 ghost use Rattle.relax_system.specs.Sides.{AllBefore};
 ghost use Rattle.relax_system.specs.Means.{InBoxes};
 ghost use Rattle.relax_system.specs.System.{IsValid};
-ghost use Rattle.relax_table.specs.Ways.{IsBound};
+ghost use Rattle.relax_table.specs.Ways.{further_of, IsBound};
 ghost use Rattle.relax_table.specs.Seats.{SeatState, IsSeatOf, IsSound, Advances};
 ghost use Rattle.relax_table.specs.Rule.{furthest};
 ghost use Rattle.std.specs.Prelude.{ℕ, List};
@@ -93,7 +93,7 @@ impl<'a, D: Direction> SideTable<'a, D> {
         requires own { IsSeatOf self.now seat }
         requires other { IsSeatOf self.now other }
         ensures own { IsSeatOf self.now result }
-        ensures seen { result.seen ≡ furthest D.side seat.seen other.seen }
+        ensures seen { (i : ℕ) → slice_index result.seen i ≡ further_of D.side (slice_index seat.seen i) (slice_index other.seen i) }
         ensures counts { (result.loads ≡ seat.loads + other.loads) × (result.fetches ≡ seat.fetches + other.fetches) × (result.moves ≡ seat.moves + other.moves) }
         ensures advances { Advances D.side seat result }
         ensures advances_other { Advances D.side other result }
