@@ -40,7 +40,11 @@ fn chain_of(rt: &impl Abort, alloc: Global, count: u32, top: u64) -> Result<Syst
             hi: top,
             near,
             anchor: ends,
-            anchored: if i == 0 { 0 } else { u128::from(ends) * u128::from(top) },
+            anchored: if i == 0 {
+                0
+            } else {
+                u128::from(ends) * u128::from(top)
+            },
         })?;
     }
     assert!(rt; is_valid(points.as_slice()));
@@ -93,9 +97,15 @@ fn goes_up<L: Ledger>(
     let mut steps = Steps::<L>::new(blank);
     let (table, mut seat) = from_bottoms(alloc, system)?;
     assert_eq!(rt; seat.seen(), [0, 0].as_slice());
-    assert_eq!(rt; table.relax(&mut seat, 1, &mut steps), Raised { old: 0, new: 1 });
+    assert_eq!(rt;
+        table.relax(&mut seat, 1, &mut steps),
+        Raised { old: 0, new: 1 }
+    );
     assert_eq!(rt; seat.raises(), 1);
-    assert_eq!(rt; table.relax(&mut seat, 0, &mut steps), Raised { old: 0, new: 0 });
+    assert_eq!(rt;
+        table.relax(&mut seat, 0, &mut steps),
+        Raised { old: 0, new: 0 }
+    );
     assert_eq!(rt; seat.raises(), 1);
     let other = table.split(&mut seat)?;
     assert_eq!(rt; other.seen(), [0, 1].as_slice());
@@ -123,7 +133,10 @@ fn goes_down<L: Ledger>(
     let mut steps = Steps::<L>::new(blank);
     let (table, mut seat) = from_tops(alloc, system)?;
     assert_eq!(rt; seat.seen(), [3, 3].as_slice());
-    assert_eq!(rt; table.relax(&mut seat, 0, &mut steps), Lowered { old: 3, new: 2 });
+    assert_eq!(rt;
+        table.relax(&mut seat, 0, &mut steps),
+        Lowered { old: 3, new: 2 }
+    );
     assert_eq!(rt; seat.lowers(), 1);
     let other = table.split(&mut seat)?;
     assert_eq!(rt; other.seen(), [2, 3].as_slice());
@@ -151,10 +164,16 @@ fn looks_at_another<L: Ledger>(
     let mut steps = Steps::<L>::new(blank);
     let (table, mut seat) = from_bottoms(alloc, system)?;
     let mut other = table.split(&mut seat)?;
-    assert_eq!(rt; table.relax(&mut seat, 1, &mut steps), Raised { old: 0, new: 1 });
+    assert_eq!(rt;
+        table.relax(&mut seat, 1, &mut steps),
+        Raised { old: 0, new: 1 }
+    );
     assert_eq!(rt; table.look(&mut other, 1, &mut steps), 1);
     assert_eq!(rt; other.seen(), [0, 1].as_slice());
-    assert_eq!(rt; table.raise(&mut other, 0, &mut steps), Raised { old: 0, new: 0 });
+    assert_eq!(rt;
+        table.raise(&mut other, 0, &mut steps),
+        Raised { old: 0, new: 0 }
+    );
     table.settle_range(&mut other, 0, 1, &mut steps);
     assert_eq!(rt; other.raises(), 0);
     Ok(())
