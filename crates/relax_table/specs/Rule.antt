@@ -1,0 +1,93 @@
+-- The rule of a table over its words, its start and the views of all seats, and what each step tells.
+use Rattle.std.specs.Prelude.{◌≡◌, ℕ, ◌+◌, ◌≤◌, List, [], map, sum_by, true, false}
+use Rattle.std.specs.List.{slice_index, zip}
+use mathlib.Core.Option.{some}
+use lib.ListN.{get_elem?}
+use Rattle.atomic_table.specs.Seated.{TableId}
+use Rattle.relax_system.specs.declared.side.Side.{Side}
+use Rattle.relax_system.specs.declared.points.Point.{Point}
+use Rattle.relax_system.specs.System.{IsValid}
+use Rattle.relax_system.specs.Means.{InBoxes}
+use Rattle.relax_system.specs.Sides.{Before, AllBefore}
+use Rattle.relax_table.specs.declared.rule.View.{View}
+use Rattle.relax_table.specs.Ways.{further_of, is_past, one_if, distance, IsBound}
+use Rattle.relax_table.specs.Step.{Kind, word_after, seen_after}
+use Rattle.relax_table.specs.Step.Kind.{Load, Renew}
+use Rattle.relax_table.specs.Seats.{SeatState, IsSound}
+
+-- a seat as clauses see it
+abbrev pub state_of : TableId → View → SeatState
+state_of id v = record { table = id; system = v.system; start = v.start; seen = v.seen; loads = v.loads; fetches = v.fetches; moves = v.moves }
+
+-- the moves of all seats together
+abbrev pub all_moves : List View → ℕ
+all_moves views = sum_by (λ v. v.moves) views
+
+-- A view that isn't spent is of this system and this start. What it has seen stands from the start on, and before the words.
+pub record IsInStep (side : Side) (points : List Point) (start words : List ℕ) (v : View) : Type 0 where
+  pub same_system : v.system ≡ points
+  pub same_start : v.start ≡ start
+  pub in_boxes : InBoxes points v.seen
+  pub started : AllBefore side start v.seen
+  pub behind : AllBefore side v.seen words
+
+-- The words stand from the start on, and before each bound. All moves together are at most what the words went from the start.
+pub record Keeps (side : Side) (points : List Point) (start words : List ℕ) (views : List View) : Type 0 where
+  pub valid : IsValid points
+  pub start_boxes : InBoxes points start
+  pub in_boxes : InBoxes points words
+  pub started : AllBefore side start words
+  pub first : (u : List ℕ) → IsBound side points u → AllBefore side words u
+  pub each : (k : ℕ) (v : View) → get_elem? views k ≡ some v → v.spent ≡ false → IsInStep side points start words v
+  pub paid : all_moves views ≤ distance side start words
+
+-- the first view
+abbrev pub opened : List Point → List ℕ → View
+opened points start = record { system = points; start = start; seen = start; loads = 0; fetches = 0; moves = 0; spent = false }
+
+-- a seat that is split off has seen the same, and has counts of 0
+abbrev pub sprout : View → View
+sprout v = record { system = v.system; start = v.start; seen = v.seen; loads = 0; fetches = 0; moves = 0; spent = v.spent }
+
+-- of two vectors the entries that stand further on the way
+abbrev pub furthest : Side → List ℕ → List ℕ → List ℕ
+furthest side u v = map (λ e. further_of side e.0 e.1) (zip u v)
+
+-- two seats made one
+abbrev pub joined : Side → View → View → View
+joined side v w = record { system = v.system; start = v.start; seen = furthest side v.seen w.seen; loads = v.loads + w.loads; fetches = v.fetches + w.fetches; moves = v.moves + w.moves; spent = v.spent }
+
+-- what a join leaves behind
+abbrev pub gone : View
+gone = record { system = []; start = []; seen = []; loads = 0; fetches = 0; moves = 0; spent = true }
+
+-- the view after a step on the word of the point i that found x
+abbrev pub stepped_view : Side → Kind → ℕ → View → ℕ → View
+stepped_view side Load i v x = record { system = v.system; start = v.start; seen = seen_after side v.system Load i x v.seen; loads = v.loads + 1; fetches = v.fetches; moves = v.moves; spent = v.spent }
+stepped_view side Renew i v x = record {
+  system = v.system;
+  start = v.start;
+  seen = seen_after side v.system Renew i x v.seen;
+  loads = v.loads;
+  fetches = v.fetches + 1;
+  moves = v.moves + one_if (is_past side x (word_after side v.system Renew i x v.seen));
+  spent = v.spent;
+}
+
+-- What a step tells: the word found isn't back from what the seat had seen, and the seat is sound after it.
+pub record Told (side : Side) (kind : Kind) (i : ℕ) (v : View) (x : ℕ) (w : View) : Type 0 where
+  pub view : w ≡ stepped_view side kind i v x
+  pub found : Before side (slice_index v.seen i) x
+  pub sound : (id : TableId) → IsSound side (state_of id w)
+
+-- what a load that changes no view tells
+pub record Learned (side : Side) (v w : View) : Type 0 where
+  pub view : w ≡ v
+  pub sound : (id : TableId) → IsSound side (state_of id w)
+
+-- a seat's own vector and count are those of its view, which isn't spent
+pub record IsHeld (side : Side) (id : TableId) (v : View) (seen : List ℕ) (moves : ℕ) : Type 0 where
+  pub same_seen : seen ≡ v.seen
+  pub same_moves : moves ≡ v.moves
+  pub unspent : v.spent ≡ false
+  pub sound : IsSound side (state_of id v)

@@ -1,0 +1,63 @@
+-- What clauses see of a table and of a seat.
+use Rattle.std.specs.Prelude.{◌≡◌, ◌≢◌, ℕ, ◌+◌, ◌-◌, ◌≤◌, List, length, take, drop, sum_by, All}
+use Rattle.atomic_table.specs.Seated.{TableId}
+use Rattle.relax_system.specs.declared.side.Side.{Side}
+use Rattle.relax_system.specs.declared.points.Point.{Point}
+use Rattle.relax_system.specs.System.{point_at, IsValid}
+use Rattle.relax_system.specs.Means.{InBoxes}
+use Rattle.relax_system.specs.Sides.{AllBefore}
+use Rattle.relax_table.specs.Ways.{distance, IsBound}
+
+-- which table it is, its system, and the vector that it was made with
+pub record TableState : Type 0 where
+  pub id : TableId
+  pub system : List Point
+  pub start : List ℕ
+
+-- A seat's table with its system and start, what the seat has seen, and its counts: loads, fetches, and the moves,
+-- which are the fetches that changed a word.
+pub record SeatState : Type 0 where
+  pub table : TableId
+  pub system : List Point
+  pub start : List ℕ
+  pub seen : List ℕ
+  pub loads : ℕ
+  pub fetches : ℕ
+  pub moves : ℕ
+
+pub record IsSeatOf (t : TableState) (s : SeatState) : Type 0 where
+  pub same_table : s.table ≡ t.id
+  pub same_system : s.system ≡ t.system
+  pub same_start : s.start ≡ t.start
+
+-- What holds of a seat at every moment, on either side.
+pub record IsSound (side : Side) (s : SeatState) : Type 0 where
+  pub valid : IsValid s.system
+  pub start_boxes : InBoxes s.system s.start
+  pub in_boxes : InBoxes s.system s.seen
+  pub started : AllBefore side s.start s.seen
+  pub first : (u : List ℕ) → IsBound side s.system u → AllBefore side s.seen u
+  pub paid : (u : List ℕ) → IsBound side s.system u → s.moves ≤ distance side s.start u
+
+-- no count fell
+pub record CountsOn (old new : SeatState) : Type 0 where
+  pub loads : old.loads ≤ new.loads
+  pub fetches : old.fetches ≤ new.fetches
+  pub moves : old.moves ≤ new.moves
+
+-- A call left the seat at its table, with no entry back on its way.
+pub record Advances (side : Side) (old new : SeatState) : Type 0 where
+  pub same_table : new.table ≡ old.table
+  pub same_system : new.system ≡ old.system
+  pub same_start : new.start ≡ old.start
+  pub counts : CountsOn old new
+  pub further : AllBefore side old.seen new.seen
+  pub sound : IsSound side new
+
+-- the points from the one number to the other, and the entries of their neighbours
+abbrev pub sweep_steps : List Point → ℕ → ℕ → ℕ
+sweep_steps points from to = sum_by (λ p. length p.near + 1) (take (to - from) (drop from points))
+
+-- no entry of this point is among the neighbours of the point i
+abbrev pub IsNoNeighbour : List Point → ℕ → ℕ → Type 0
+IsNoNeighbour points i j = All (λ n. n.point ≢ j) (point_at points i).near

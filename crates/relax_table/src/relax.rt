@@ -1,0 +1,166 @@
+//! Single steps, and the relaxation of one point.
+
+ghost use Rattle.std.specs.Prelude.{◌≡◌, ◌≢◌, ℕ, ◌+◌, ◌<◌, ◌≤◌, length, slice_index, slice_set, MatchBool};
+ghost use Rattle.relax_system.specs.Sides.{Before, mean_of};
+ghost use Rattle.relax_system.specs.System.{point_at};
+ghost use Rattle.relax_table.specs.Step.{word_after, seen_after};
+ghost use Rattle.relax_table.specs.Step.Kind.{Load, Renew};
+ghost use Rattle.relax_table.specs.Seats.{IsSeatOf, Advances, IsNoNeighbour};
+ghost use Rattle.relax_table.specs.Ways.{distance, is_past, one_if};
+ghost use Rattle.std.specs.Prelude.{[], false, ◌||◌};
+ghost use Rattle.relax_table.specs.Rule.{Told};
+
+use crate::direction::{Direction, further, mean, passes};
+use crate::rule::{Looks, Renews, View};
+use crate::seat::{Renewal, SideSeat};
+use crate::steps::Steps;
+use crate::table::SideTable;
+use atomic_table::Seat;
+use relax_system::Side;
+use std::sync::ledger::Ledger;
+
+/// What a relaxation did: its fetch, and whether it moved an entry of what the seat has seen.
+#[derive(Clone, Copy)]
+pub(crate) struct Relaxed {
+    pub fetch: Renewal,
+    pub moved: bool,
+}
+
+impl<'a, D: Direction> SideTable<'a, D> {
+    /// One load of the word of a point.
+    #[inline(always)]
+    pub(crate) fn load<L: Ledger>(
+        &self,
+        seat: &mut SideSeat<D>,
+        i: usize,
+        steps: &mut Steps<L>,
+    ) -> u64
+        requires own { IsSeatOf self.now seat.old }
+        requires point { i < length self.now.system }
+        ensures own { IsSeatOf self.now seat.new }
+        ensures advances { Advances D.side seat.old seat.new }
+        ensures seen { seat.new.seen ≡ seen_after D.side self.now.system Load i result seat.old.seen }
+        ensures counts { (seat.new.loads ≡ seat.old.loads + 1) × (seat.new.fetches ≡ seat.old.fetches) × (seat.new.moves ≡ seat.old.moves) }
+        ensures found { Before D.side (slice_index seat.old.seen i) result }
+        ensures steps { steps.new ≡ steps.old + 1 }
+    {
+        let word = self.table.shared.load::<Looks<D>>(&mut seat.seat, i);
+        seat.seen[i] = word;
+        steps.tick();
+        word
+    }
+
+    /// One fetch on the word of a point, of the mean of what the seat has seen.
+    #[inline(always)]
+    pub(crate) fn renew<L: Ledger>(
+        &self,
+        seat: &mut SideSeat<D>,
+        i: usize,
+        steps: &mut Steps<L>,
+    ) -> Renewal
+        requires own { IsSeatOf self.now seat.old }
+        requires point { i < length self.now.system }
+        ensures own { IsSeatOf self.now seat.new }
+        ensures advances { Advances D.side seat.old seat.new }
+        ensures word { result.new ≡ word_after D.side self.now.system Renew i result.old seat.old.seen }
+        ensures seen { seat.new.seen ≡ slice_set seat.old.seen i result.new }
+        ensures counts { (seat.new.loads ≡ seat.old.loads) × (seat.new.fetches ≡ seat.old.fetches + 1) }
+        ensures moves { seat.new.moves ≡ seat.old.moves + one_if (is_past D.side result.old result.new) }
+        ensures found { Before D.side (slice_index seat.old.seen i) result.old }
+        ensures quiet { Before D.side (mean_of D.side self.now.system i seat.new.seen) (slice_index seat.new.seen i) }
+        ensures steps { steps.new ≡ steps.old + 1 }
+    {
+        let mean = mean(D::side(), self.system, i, &seat.seen);
+        let old = self.fetch(&mut seat.seat, i, mean);
+        let new = further(D::side(), old, mean);
+        seat.seen[i] = new;
+        seat.moves += passes(D::side(), old, new);
+        steps.tick();
+        Renewal { old, new }
+    }
+
+    /// Loads of the words of all neighbours of a point. Whether an entry of what the seat has seen moved.
+    #[inline(always)]
+    fn look_around<L: Ledger>(&self, seat: &mut SideSeat<D>, i: usize, steps: &mut Steps<L>) -> bool
+        requires own { IsSeatOf self.now seat.old }
+        requires point { i < length self.now.system }
+        ensures own { IsSeatOf self.now seat.new }
+        ensures advances { Advances D.side seat.old seat.new }
+        ensures counts { (seat.new.loads ≡ seat.old.loads + length (point_at self.now.system i).near) × (seat.new.fetches ≡ seat.old.fetches) × (seat.new.moves ≡ seat.old.moves) }
+        ensures others { (j : ℕ) → IsNoNeighbour self.now.system i j → slice_index seat.new.seen j ≡ slice_index seat.old.seen j }
+        ensures moved { MatchBool result (1 ≤ distance D.side seat.old.seen seat.new.seen) (seat.new.seen ≡ seat.old.seen) }
+        ensures steps { steps.new ≡ steps.old + length (point_at self.now.system i).near }
+    {
+        seat.know();
+        let mut moved = false;
+        for entry in self.system.point(i).near.as_slice() {
+            let other = entry.point as usize;
+            let before = seat.seen[other];
+            let word = self.load(seat, other, steps);
+            moved = either(moved, differs(word, before));
+        }
+        moved
+    }
+
+    /// A look at each neighbour of a point, and then a renewal of the point.
+    #[inline(always)]
+    pub(crate) fn relax_side<L: Ledger>(
+        &self,
+        seat: &mut SideSeat<D>,
+        i: usize,
+        steps: &mut Steps<L>,
+    ) -> Relaxed
+        requires own { IsSeatOf self.now seat.old }
+        requires point { i < length self.now.system }
+        ensures own { IsSeatOf self.now seat.new }
+        ensures advances { Advances D.side seat.old seat.new }
+        ensures word { result.fetch.new ≡ word_after D.side self.now.system Renew i result.fetch.old seat.new.seen }
+        ensures entry { slice_index seat.new.seen i ≡ result.fetch.new }
+        ensures counts { (seat.new.loads ≡ seat.old.loads + length (point_at self.now.system i).near) × (seat.new.fetches ≡ seat.old.fetches + 1) }
+        ensures moves { seat.new.moves ≡ seat.old.moves + one_if (is_past D.side result.fetch.old result.fetch.new) }
+        ensures others { (j : ℕ) → j ≢ i → IsNoNeighbour self.now.system i j → slice_index seat.new.seen j ≡ slice_index seat.old.seen j }
+        ensures found { Before D.side (slice_index seat.old.seen i) result.fetch.old }
+        ensures quiet { Before D.side (mean_of D.side self.now.system i seat.new.seen) (slice_index seat.new.seen i) }
+        ensures moved { MatchBool result.moved (1 ≤ distance D.side seat.old.seen seat.new.seen) (seat.new.seen ≡ seat.old.seen) }
+        ensures steps { steps.new ≡ steps.old + (length (point_at self.now.system i).near + 1) }
+    {
+        seat.know();
+        let looked = self.look_around(seat, i, steps);
+        let before = seat.seen[i];
+        let fetch = self.renew(seat, i, steps);
+        let moved = either(looked, differs(fetch.new, before));
+        Relaxed { fetch, moved }
+    }
+
+    /// The fetch alone: the greater, or on the way down the smaller, of the word and the mean.
+    #[inline(always)]
+    fn fetch(&self, seat: &mut Seat<u8, View>, i: usize, mean: u64) -> u64
+        requires own { (seat.old.table_id ≡ self.now.id) × (seat.old.me.1 ≡ []) × (seat.old.me.0.spent ≡ false) }
+        requires point { i < length self.now.system }
+        requires mean { mean ≡ mean_of D.side seat.old.me.0.system i seat.old.me.0.seen }
+        ensures own { (seat.new.table_id ≡ self.now.id) × (seat.new.me.1 ≡ []) }
+        ensures told { Told D.side Renew i seat.old.me.0 result seat.new.me.0 }
+    {
+        let _ = &self.system;
+        match D::side() {
+            Side::Floor => self.table.shared.fetch_max::<Renews<D>>(seat, i, mean),
+            Side::Ceil => self.table.shared.fetch_min::<Renews<D>>(seat, i, mean),
+        }
+    }
+}
+
+/// Whether one of the two holds.
+#[inline(always)]
+pub(crate) fn either(a: bool, b: bool) -> bool
+    ensures { result ≡ (a || b) }
+{
+    a || b
+}
+
+/// Whether the numbers differ.
+#[inline(always)]
+fn differs(a: u64, b: u64) -> bool
+    ensures { MatchBool result (a ≢ b) (a ≡ b) }
+{
+    a != b
+}

@@ -1,0 +1,46 @@
+//! Seats: what one thread knows of a table.
+
+ghost use Rattle.relax_table.specs.Seats.{IsSound};
+
+use crate::direction::Direction;
+use crate::rule::View;
+use atomic_table::Seat;
+use std::marker::{Model, PhantomData};
+
+/// What a fetch found in the word, and what it left there.
+#[derive(Clone, Copy, Debug, PartialEq, Eq)]
+pub struct Renewal {
+    pub old: u64,
+    pub new: u64,
+}
+
+/// A seat at a table of that direction: what one thread has seen, and how many words it has moved.
+#[derive(Drop)]
+pub struct SideSeat<D: Direction> {
+    pub(crate) seat: Seat<u8, View>,
+    pub(crate) seen: Vec<u64>,
+    pub(crate) moves: u64,
+    pub(crate) direction: PhantomData<D>,
+}
+
+impl<D: Direction> Model for SideSeat<D> {
+    ghost use Rattle.std.specs.Prelude.{◌≡◌, []};
+    ghost use Rattle.relax_table.specs.Seats.{SeatState};
+    ghost use Rattle.relax_table.specs.Rule.{state_of, IsHeld};
+
+    ghost Value = { SeatState };
+
+    ghost view = { λ s. state_of s.seat.table_id s.seat.me.0 };
+
+    ghost invariant = { λ s. (s.seat.me.1 ≡ []) × IsHeld D.side s.seat.table_id s.seat.me.0 s.seen.items s.moves };
+}
+
+impl<D: Direction> SideSeat<D> {
+    /// Does nothing, and tells what holds of a seat at every moment.
+    #[inline(always)]
+    pub(crate) fn know(&self)
+        ensures { IsSound D.side self.now }
+    {
+        let _ = &self.seen;
+    }
+}
