@@ -1,0 +1,17 @@
+//! Which points a seat begins with.
+
+ghost use Rattle.std.specs.Prelude.{◌≡◌, ◌+◌, ◌*◌, ◌/◌, ◌<◌, ◌≤◌};
+ghost use Rattle.relax_crew.specs.Crew.{first_point};
+
+/// The first point of seat `k` of `seats`, and the one past its last, where `points` points are dealt out.
+pub(crate) fn range_of(k: usize, seats: usize, points: usize) -> (usize, usize)
+    requires seat { k < seats }
+    requires seats { seats ≤ 64 }
+    requires points { points ≤ 2097152 }
+    ensures from { result.0 ≡ first_point k seats points }
+    ensures to { result.1 ≡ first_point (k + 1) seats points }
+    ensures order { result.0 ≤ result.1 }
+    ensures within { result.1 ≤ points }
+{
+    (k * points / seats, (k + 1) * points / seats)
+}
