@@ -163,7 +163,7 @@ fn work<L: Ledger, G: Gate>(
     table.settle(seat, &mut steps);
 }
 
-/// One seat of all.
+/// Joins all seats into one.
 fn joined(table: &CeilTable<'_>, mut benches: Vec<Bench<Down>>) -> CeilSeat
     requires some { 1 ≤ vec_len benches }
     requires seated { AllSeated table.now benches.items }

@@ -16,5 +16,5 @@ mod range;
 pub use ceil::{CeilAnswer, greatest};
 pub use floor::{FloorAnswer, least};
 
-//cfg
-//mod tests;
+#[cfg(test)]
+mod tests;
