@@ -1,27 +1,35 @@
 #!/usr/bin/env bash
 # Settles a table on a grid three times with the proved program and three times with the same loop by hand, in turn, and prints
-# the medians and their ratio. Usage: bench/table_settle.sh [SIDE], by default 100.
+# the medians and their ratio: of the settling alone in milliseconds, and of the whole programs in seconds of processor time,
+# which other work on the machine disturbs less. Usage: bench/table_settle.sh [SIDE], by default 100.
 set -eu
 here=$(cd "$(dirname "$0")/.." && pwd)
 side=${1-100}
 build=$(mktemp -d)
 trap 'rm -rf "$build"' EXIT
 
-rustc --edition 2024 -C opt-level=3 -C target-cpu=native "$here/bench/table_settle.rs" -o "$build/by_hand"
+# The kit builds for x86-64-v2 as well; with target-cpu=native the loop by hand is slower.
+rustc --edition 2024 -C opt-level=3 -C target-cpu=x86-64-v2 "$here/bench/table_settle.rs" -o "$build/by_hand"
 proved=$here/crates/table_bench/out/table_bench
 if [ ! -x "$proved" ]; then
     (cd "$here/crates/table_bench" && rt run >/dev/null </dev/null)
 fi
 
-median() { sort -n | sed -n 2p; }
+TIMEFORMAT=%U
+run() {
+    { time "$2" "$side" >"$build/$1.out"; } 2>>"$build/$1.seconds"
+    sed -n 's/ ms$//p' "$build/$1.out" >>"$build/$1.ms"
+}
+median() { sort -n "$build/$1" | sed -n 2p; }
+compare() {
+    awk -v a="$(median "proved.$1")" -v b="$(median "by_hand.$1")" -v unit="$2" \
+        'BEGIN { printf "proved %s %s, by hand %s %s, ratio %.3f\n", a, unit, b, unit, a / b }'
+}
 for _ in 1 2 3; do
-    "$proved" "$side" >"$build/told"
-    sed -n 's/ ms$//p' "$build/told" >>"$build/proved_ms"
-    "$build/by_hand" "$side" >"$build/expected"
-    sed -n 's/ ms$//p' "$build/expected" >>"$build/by_hand_ms"
-    cmp <(tail -n 1 "$build/told") <(tail -n 1 "$build/expected")
+    run proved "$proved"
+    run by_hand "$build/by_hand"
+    cmp <(tail -n 1 "$build/proved.out") <(tail -n 1 "$build/by_hand.out")
 done
-a=$(median <"$build/proved_ms")
-b=$(median <"$build/by_hand_ms")
-echo "proved $a ms, by hand $b ms, ratio $(awk -v a="$a" -v b="$b" 'BEGIN { printf "%.3f", a / b }')"
-tail -n 1 "$build/told"
+compare ms ms
+compare seconds "s of processor time"
+tail -n 1 "$build/proved.out"
