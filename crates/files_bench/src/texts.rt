@@ -15,7 +15,7 @@ pub fn nodes_text(alloc: Global, size: usize) -> Result<String, AllocError> {
         }
         let width = i % 37 + 1;
         body.push_str(&format!(in alloc; "\to{i}\t{width}\t12\n")?)?;
-        count += 1;
+        count = i + 1;
     }
     let mut text = format!(in alloc; "UCLA nodes 1.0\n\nNumNodes : {count}\nNumTerminals : 0\n")?;
     text.push_str(&body)?;
@@ -35,9 +35,9 @@ pub fn nets_text(alloc: Global, size: usize) -> Result<String, AllocError> {
             let node = (i + k * 7919) % 100_003;
             body.push_str(&format!(in alloc; "\to{node}\tI : -{k}.500000\t0.250000\n")?)?;
         }
-        count += 1;
+        count = i + 1;
     }
-    let pins = count * 4;
+    let pins = count.saturating_mul(4);
     let mut text = format!(in alloc; "UCLA nets 1.0\n\nNumNets : {count}\nNumPins : {pins}\n")?;
     text.push_str(&body)?;
     Ok(text)
