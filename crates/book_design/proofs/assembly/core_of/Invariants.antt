@@ -1,0 +1,5 @@
+use Rattle.book_design.specs.Assembly.{IsCoreUpTo}
+use Rattle.book_design.proofs.assembly.core_of.Given as goal
+
+abbrev pub invariant-loop-strip : goal.invariant-loop-strip
+invariant-loop-strip l = IsCoreUpTo l.height l.strips l.strip-index l.core

@@ -1,0 +1,5 @@
+use Rattle.book_design.proofs.Netting.{AreNetted}
+use Rattle.book_design.proofs.nets.pinned_nets.Given as goal
+
+abbrev pub invariant-loop-n : goal.invariant-loop-n
+invariant-loop-n l = AreNetted l.files l.n l.nets.items

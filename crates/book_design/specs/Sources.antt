@@ -1,0 +1,46 @@
+-- The records of the files as the steps of the join are passed them.
+use Rattle.std.specs.Prelude.{ℕ, List, [], Option, option_map, slice_index_or, bytes_eq, pos}
+use Rattle.std.specs.List.{AllByRecursion, filter}
+use Rattle.book_files.specs.Entries.{WeightEntry, node_entries, weight_entries, place_entries}
+use Rattle.book_files.specs.Blocks.{net_entries, row_entries}
+use Rattle.book_files.specs.Ranges.{IsNodeInRange, IsNetInRange, IsPlaceInRange, IsRowInRange}
+use Rattle.book_design.specs.declared.sources.Sources.{Sources}
+use Rattle.book_design.specs.Files.{Files, node_at, weight_lines, last_of}
+use Rattle.book_design.specs.Joined.{place_at}
+
+abbrev pub files_of : Sources → Files
+files_of sources = record {
+  nodes = node_entries sources.nodes.now;
+  nets = net_entries sources.nets.now;
+  weights = option_map (λ lines. weight_entries lines.now) sources.weights;
+  places = place_entries sources.places.now;
+  rows = row_entries sources.rows.now;
+}
+
+-- what the readers of the files ensure of their numbers
+pub record AreInRange (files : Files) : Type 0 where
+  pub nodes : AllByRecursion IsNodeInRange files.nodes
+  pub nets : AllByRecursion IsNetInRange files.nets
+  pub places : AllByRecursion IsPlaceInRange files.places
+  pub rows : AllByRecursion IsRowInRange files.rows
+
+-- past the end stands a line without a name
+abbrev pub weight_at : Files → ℕ → WeightEntry
+weight_at files i = slice_index_or (weight_lines files) i (record { name = []; weight = pos 0 })
+
+-- the names of the lines, by number
+abbrev pub node_name : Files → ℕ → List ℕ
+node_name files i = (node_at files i).name
+
+abbrev pub place_name : Files → ℕ → List ℕ
+place_name files i = (place_at files i).name
+
+abbrev pub entry_name : List WeightEntry → ℕ → List ℕ
+entry_name lines i = (slice_index_or lines i (record { name = []; weight = pos 0 })).name
+
+abbrev pub weight_name : Files → ℕ → List ℕ
+weight_name files = entry_name (weight_lines files)
+
+-- the last of these lines with the name
+abbrev pub last_entry : List WeightEntry → List ℕ → Option WeightEntry
+last_entry lines name = last_of (filter (λ weight. bytes_eq weight.name name) lines)

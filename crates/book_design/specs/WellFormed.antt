@@ -1,0 +1,73 @@
+-- What holds of every joined design.
+use Rattle.std.specs.Prelude.{◌≡◌, ◌⊎◌, ℕ, ◌^◌, ◌<◌, ◌≤◌, false, List, length, slice_index_or, ℤ, pos, ◌≤ℤ◌, ◌+ℤ◌, ◌*ℤ◌, ◌≢◌}
+use Rattle.std.specs.List.{AllByRecursion, sum_by}
+use Rattle.book_files.specs.Ranges.{IsInRange, IsName}
+use Rattle.book_design.specs.declared.parts.Pin.{Pin}
+use Rattle.book_design.specs.declared.parts.Subrow.{Subrow}
+use Rattle.book_design.specs.declared.parts.Core.{Core}
+use Rattle.book_design.specs.Values.{NodeValue, NetValue, DesignValue}
+use Rattle.book_design.specs.Points.{node_value_at}
+
+-- a node's numbers are in range, and a movable one is no higher than a row
+pub record IsGoodNode (row_height : ℤ) (node : NodeValue) : Type 0 where
+  pub name : IsName node.name
+  pub width : IsInRange node.width
+  pub height : IsInRange node.height
+  pub width_sign : pos 0 ≤ℤ node.width
+  pub height_sign : pos 0 ≤ℤ node.height
+  pub x : IsInRange node.x
+  pub y : IsInRange node.y
+  pub low : node.fixed ≡ false → node.height ≤ℤ row_height
+
+-- a pin's node is there, and its offset is in range
+pub record IsGoodPin (nodes : ℕ) (pin : Pin) : Type 0 where
+  pub there : pin.node < nodes
+  pub dx : IsInRange pin.dx
+  pub dy : IsInRange pin.dy
+
+pub record IsGoodNet (nodes : ℕ) (net : NetValue) : Type 0 where
+  pub weight : net.weight ≤ 65535
+  pub pins : AllByRecursion (IsGoodPin nodes) net.pins
+
+-- a subrow lies within 1,000,000 units
+pub record IsGoodSubrow (pitch row_height : ℤ) (subrow : Subrow) : Type 0 where
+  pub sites : subrow.sites ≤ 2 ^ 24
+  pub x : IsInRange subrow.x
+  pub y : IsInRange subrow.y
+  pub right : (subrow.x +ℤ pos subrow.sites *ℤ pitch) ≤ℤ pos (10 ^ 12)
+  pub upper : (subrow.y +ℤ row_height) ≤ℤ pos (10 ^ 12)
+
+-- past the end there is a subrow without sites
+abbrev pub subrow_at : List Subrow → ℕ → Subrow
+subrow_at subrows s = slice_index_or subrows s (record { row = 0; x = pos 0; y = pos 0; sites = 0 })
+
+-- Two subrows stand apart where one has no site, or ends before the other begins, on one of the axes.
+abbrev pub AreApart : ℤ → ℤ → Subrow → Subrow → Type 0
+AreApart pitch row_height a b = (a.sites ≡ 0) ⊎ ((b.sites ≡ 0)
+    ⊎ (((a.x +ℤ pos a.sites *ℤ pitch) ≤ℤ b.x) ⊎ (((b.x +ℤ pos b.sites *ℤ pitch) ≤ℤ a.x)
+    ⊎ (((a.y +ℤ row_height) ≤ℤ b.y) ⊎ ((b.y +ℤ row_height) ≤ℤ a.y)))))
+
+-- the core's ends lie within 1,000,000 units, the lower ones below the upper ones
+pub record IsGoodCore (core : Core) : Type 0 where
+  pub xlo : IsInRange core.xlo
+  pub xhi : IsInRange core.xhi
+  pub ylo : IsInRange core.ylo
+  pub yhi : IsInRange core.yhi
+  pub wide : core.xlo ≤ℤ core.xhi
+  pub high : core.ylo ≤ℤ core.yhi
+
+pub record IsDesign (design : DesignValue) : Type 0 where
+  pub few_nodes : length design.nodes ≤ 2 ^ 20
+  pub few_pins : sum_by (λ net. length net.pins) design.nets ≤ 2 ^ 24
+  pub few_nets : length design.nets < 2 ^ 32
+  pub few_subrows : length design.subrows ≤ 2 ^ 16
+  pub nodes : AllByRecursion (IsGoodNode design.row_height) design.nodes
+  pub distinct : (i j : ℕ) → i < j → j < length design.nodes → (node_value_at design.nodes i).name ≢ (node_value_at design.nodes j).name
+  pub nets : AllByRecursion (IsGoodNet (length design.nodes)) design.nets
+  pub subrows : AllByRecursion (IsGoodSubrow design.pitch design.row_height) design.subrows
+  pub apart : (s t : ℕ) → s < t → t < length design.subrows → AreApart design.pitch design.row_height (subrow_at design.subrows s) (subrow_at design.subrows t)
+  pub core : IsGoodCore design.core
+  pub pitch : IsInRange design.pitch
+  pub row_height : IsInRange design.row_height
+  pub pitch_sign : pos 1 ≤ℤ design.pitch
+  pub height_sign : pos 1 ≤ℤ design.row_height
