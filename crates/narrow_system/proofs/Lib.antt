@@ -1,0 +1,7 @@
+mod Movable
+mod Coordinates
+mod Nets
+mod Nodes
+mod Joined
+mod Valid
+mod Answer

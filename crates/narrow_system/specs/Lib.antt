@@ -1,0 +1,2 @@
+pub mod NarrowSystem
+pub mod Joining
