@@ -1,130 +1,118 @@
--- No two of the stories that files may tell hold together, since a text has one reading at most.
-use Rattle.std.proofs.Common.{◌≡◌, ◌≢◌, ◌≤◌, ℕ, List, length, refl, sym, ◌∙◌, ap, subst}
-use Rattle.std.specs.Prelude.{Option, Some, None, AllPairs}
+-- A design is refused by one cause at most, and by none where it is placed.
+use Rattle.std.proofs.Common.{◌≡◌, ◌<◌, ◌≤◌, ℕ, List, length, refl, sym, ◌∙◌, ap, subst, arith}
+use Rattle.std.specs.Prelude.{Some}
 use Rattle.book_outer.specs.Files.{FileEntry, content}
-use Rattle.narrow_form.specs.Narrow.{AuxNames, NodeEntry, NetEntry, PlaceEntry, RowEntry, IsAuxText, IsNodesText, IsNetsText, IsPlText, IsSclText}
-use Rattle.proud_top.specs.declared.kind.FileKind.{FileKind}
-use Rattle.proud_top.specs.declared.kind.FileKind.TheVariants.{Aux, Nodes, Nets, Wts, Pl, Scl}
-use Rattle.proud_top.specs.NarrowSystem.{NarrowDesign}
-use Rattle.proud_top.specs.Design.{HasText, HasOtherText, IsNarrow, IsUnbuilt, IsReached, beside}
-use Rattle.proud_top.specs.Loading.{most_bytes}
+use Rattle.book_files.specs.declared.records.FileKind.{FileKind}
+use Rattle.book_files.specs.declared.records.FileKind.TheVariants.{Aux, Nodes, Nets, Wts, Pl, Scl}
+use Rattle.book_files.specs.declared.fault.TextFault.{TextFault}
+use Rattle.book_files.specs.Entries.{AuxEntry}
+use Rattle.book_files.specs.Loading.{most_bytes}
+use Rattle.book_design.specs.declared.fault.DesignFault.{DesignFault}
+use Rattle.book_design.specs.Files.{Files}
+use Rattle.book_design.specs.Values.{DesignValue}
+use Rattle.book_design.specs.Faults.{IsFirstFault}
+use Rattle.book_design.specs.Answers.{IsJoined}
+use Rattle.narrow_system.specs.NarrowSystem.{IsUnbuilt}
+use Rattle.proud_top.specs.declared.status.Refusal.{Refusal}
+use Rattle.proud_top.specs.declared.status.Refusal.TheVariants.{TooLong, Text, Design, NotBuilt}
+use Rattle.proud_top.specs.Accepted.{Accepts, IsFaultOf}
+use Rattle.proud_top.specs.Refused.{IsTooLong, IsBadText, IsDesignFault, IsNotBuilt, IsRefusedAs}
+use Rattle.proud_top.proofs.Once.{OneAnswer, long_stops, bad_stops, reached_once, stops_once, accepts_all, accepts_once, fault_once}
 
--- what the law of one reading says
-pub record OneReading : Type 0 where
-  pub aux : (text : List ℕ) (a b : AuxNames) → IsAuxText text a → IsAuxText text b → a ≡ b
-  pub nodes : (text : List ℕ) (a b : List NodeEntry) → IsNodesText text a → IsNodesText text b → a ≡ b
-  pub nets : (text : List ℕ) (nodes : List NodeEntry) (a b : List NetEntry) → AllPairs (λ a b. a.name ≢ b.name) nodes → IsNetsText text nodes a → IsNetsText text nodes b → a ≡ b
-  pub pl : (text : List ℕ) (nodes : List NodeEntry) (a b : List PlaceEntry) → IsPlText text nodes a → IsPlText text nodes b → a ≡ b
-  pub scl : (text : List ℕ) (a b : RowEntry) → IsSclText text a → IsSclText text b → a ≡ b
+-- the cause of a refusal, by its kind
+pub data Cause (files : List FileEntry) (word : List ℕ) (refusal : Refusal) : Type 0 where
+  long : (kind : FileKind) → refusal ≡ TooLong kind → IsTooLong files word kind → Cause files word refusal
+  bad : (kind : FileKind) (fault : TextFault) → refusal ≡ Text kind fault → IsBadText files word kind fault → Cause files word refusal
+  joined : (fault : DesignFault) → refusal ≡ Design fault → IsDesignFault files word fault → Cause files word refusal
+  unbuilt : refusal ≡ NotBuilt Nets → IsNotBuilt files word → Cause files word refusal
+
+open_cause : (files : List FileEntry) (word : List ℕ) (refusal : Refusal) → IsRefusedAs files word refusal → Cause files word refusal
+open_cause files word (TooLong kind) h = long kind refl h
+open_cause files word (Text kind fault) h = bad kind fault refl h
+open_cause files word (Design fault) h = joined fault refl h
+open_cause files word (NotBuilt Nets) h = unbuilt refl h
+open_cause files word (NotBuilt Aux) h = absurd h
+open_cause files word (NotBuilt Nodes) h = absurd h
+open_cause files word (NotBuilt Wts) h = absurd h
+open_cause files word (NotBuilt Pl) h = absurd h
+open_cause files word (NotBuilt Scl) h = absurd h
 
 one_text : (a b : List ℕ) → Some a ≡ Some b → a ≡ b
 one_text a b e = cc
 
--- a file has one record
-pub one_record : {R : Type 0} (files : List FileEntry) (name : List ℕ) (IsRead : List ℕ → R → Type 0) (a b : R) → ((text : List ℕ) (a b : R) → IsRead text a → IsRead text b → a ≡ b) → HasText files name IsRead a → HasText files name IsRead b → a ≡ b
-one_record {R} files name IsRead a b one h k =
-    let same : h.text ≡ k.text = one_text _ _ (sym h.there ∙ k.there) in
-    let P : List ℕ → Type 0 = λ text. IsRead text a in
-    one k.text a b (subst P same h.is_read) k.is_read
+-- a file that is too long has no first fault that is told
+long_or_bad : OneAnswer → (files : List FileEntry) (word : List ℕ) (a b : FileKind) (fault : TextFault) → IsTooLong files word a → IsBadText files word b fault → ⊥
+long_or_bad one files word a b fault h k =
+    let kinds : a ≡ b = stops_once one files word a b (long_stops files word a h) (bad_stops files word b fault k) in
+    let P : FileKind → Type 0 = λ kind. IsTooLong files word kind in
+    let g : IsTooLong files word b = subst P kinds h in
+    let names : g.name ≡ k.name = reached_once one files word b g.name k.name g.place k.place g.reached k.reached in
+    let T : List ℕ → Type 0 = λ name. content files name ≡ Some g.long.text in
+    let same : g.long.text ≡ k.text = one_text _ _ (sym (subst T names g.long.there) ∙ k.there) in
+    let L : List ℕ → Type 0 = λ text. most_bytes < length text in
+    clash most_bytes (length k.text) (subst L same g.long.long) k.short where
+      clash : (limit n : ℕ) → limit < n → n ≤ limit → ⊥
+      clash limit n a b = omega arith
 
--- a file that is read as a record isn't one that is read as none
-pub not_both : {R : Type 0} (files : List FileEntry) (name : List ℕ) (IsRead : List ℕ → R → Type 0) (a : R) → HasText files name IsRead a → HasOtherText files name IsRead → ⊥
-not_both {R} files name IsRead a h k =
-    let same : h.text ≡ k.text = one_text _ _ (sym h.there ∙ k.there) in
-    let P : List ℕ → Type 0 = λ text. IsRead text a in
-    let S : List ℕ → Type 0 = λ text. length text ≤ most_bytes in
-    k.unread (subst S same h.short) a (subst P same h.is_read)
+-- two faults of texts are one
+one_bad : OneAnswer → (files : List FileEntry) (word : List ℕ) (a b : FileKind) (f g : TextFault) → IsBadText files word a f → IsBadText files word b g → Text a f ≡ Text b g
+one_bad one files word a b f g h k =
+    let kinds : a ≡ b = stops_once one files word a b (bad_stops files word a f h) (bad_stops files word b g k) in
+    let P : FileKind → Type 0 = λ kind. IsBadText files word kind f in
+    let m : IsBadText files word b f = subst P kinds h in
+    let names : m.name ≡ k.name = reached_once one files word b m.name k.name m.place k.place m.reached k.reached in
+    let T : List ℕ → Type 0 = λ name. content files name ≡ Some m.text in
+    let same : m.text ≡ k.text = one_text _ _ (sym (subst T names m.there) ∙ k.there) in
+    let F : List ℕ → Type 0 = λ text. IsFaultOf b text f in
+    let faults : f ≡ g = fault_once one b k.text f g (subst F same m.faulty) k.faulty in
+    cc
 
--- the files up to the nodes, up to the nets, and up to the places
-pub record HasNodes (files : List FileEntry) (word : List ℕ) (names : AuxNames) (nodes : List NodeEntry) : Type 0 where
-  pub aux : HasText files word IsAuxText names
-  pub nodes_file : HasText files (beside word names.nodes) IsNodesText nodes
+-- the files together have one first fault, and where they do they make no design
+one_design_fault : OneAnswer → (files : List FileEntry) (word : List ℕ) (f g : DesignFault) → IsDesignFault files word f → IsDesignFault files word g → f ≡ g
+one_design_fault one files word f g h k =
+    let same : h.inputs ≡ k.inputs = accepts_once one files word h.names k.names h.inputs k.inputs h.accepted k.accepted in
+    let P : Files → Type 0 = λ inputs. IsFirstFault inputs f in
+    (one.join k.inputs).one_fault f g (subst P same h.faulty) k.faulty
 
-pub record HasNets (files : List FileEntry) (word : List ℕ) (names : AuxNames) (nodes : List NodeEntry) (nets : List NetEntry) : Type 0 where
-  pub before : HasNodes files word names nodes
-  pub nets_file : HasText files (beside word names.nets) (λ text. IsNetsText text nodes) nets
+joined_or_faulty : OneAnswer → (files : List FileEntry) (word : List ℕ) (names : AuxEntry) (inputs : Files) (design : DesignValue) (fault : DesignFault)
+    → Accepts files word names inputs → IsJoined inputs design → IsDesignFault files word fault → ⊥
+joined_or_faulty one files word names inputs design fault h joins k =
+    let same : inputs ≡ k.inputs = accepts_once one files word names k.names inputs k.inputs h k.accepted in
+    let P : Files → Type 0 = λ x. IsJoined x design in
+    (one.join k.inputs).not_both design fault (subst P same joins) k.faulty
 
-pub record HasPlaces (files : List FileEntry) (word : List ℕ) (names : AuxNames) (nodes : List NodeEntry) (nets : List NetEntry) (places : List PlaceEntry) : Type 0 where
-  pub before : HasNets files word names nodes nets
-  pub places_file : HasText files (beside word names.pl) (λ text. IsPlText text nodes) places
+-- files that make a design which is built are refused for none
+pub placed_or_refused : OneAnswer → (files : List FileEntry) (word : List ℕ) (names : AuxEntry) (inputs : Files) (design : DesignValue) (refusal : Refusal)
+    → Accepts files word names inputs → IsJoined inputs design → (IsUnbuilt design → ⊥) → IsRefusedAs files word refusal → ⊥
+placed_or_refused one files word names inputs design refusal h joins built k = by_cause (open_cause files word refusal k) where
+  by_cause : Cause files word refusal → ⊥
+  by_cause (long kind e l) = accepts_all one files word names inputs kind h (long_stops files word kind l)
+  by_cause (bad kind fault e b) = accepts_all one files word names inputs kind h (bad_stops files word kind fault b)
+  by_cause (joined fault e d) = joined_or_faulty one files word names inputs design fault h joins d
+  by_cause (unbuilt e n) =
+      let same : inputs ≡ n.inputs = accepts_once one files word names n.names inputs n.inputs h n.accepted in
+      let P : Files → Type 0 = λ x. IsJoined x design in
+      let designs : n.design ≡ design = (one.join n.inputs).one_design n.design design n.joined (subst P same joins) in
+      let U : DesignValue → Type 0 = λ x. IsUnbuilt x in
+      built (subst U designs n.unbuilt)
 
-one_names : OneReading → (files : List FileEntry) (word : List ℕ) (a b : AuxNames) → HasText files word IsAuxText a → HasText files word IsAuxText b → a ≡ b
-one_names one files word a b h k = one_record files word IsAuxText a b one.aux h k
-
-one_nodes : OneReading → (files : List FileEntry) (word : List ℕ) (a b : AuxNames) (n m : List NodeEntry) → HasNodes files word a n → HasNodes files word b m → n ≡ m
-one_nodes one files word a b n m h k =
-    let P : AuxNames → Type 0 = λ x. HasText files (beside word x.nodes) IsNodesText n in
-    one_record files (beside word b.nodes) IsNodesText n m one.nodes (subst P (one_names one files word a b h.aux k.aux) h.nodes_file) k.nodes_file
-
--- the file of each kind is read as a record in the one story and as none in the other
-pub aux_clash : (files : List FileEntry) (word : List ℕ) (a : AuxNames) → HasText files word IsAuxText a → HasOtherText files word IsAuxText → ⊥
-aux_clash files word a h k = not_both files word IsAuxText a h k
-
-pub nodes_clash : OneReading → (files : List FileEntry) (word : List ℕ) (a b : AuxNames) (n : List NodeEntry) → HasNodes files word a n → HasText files word IsAuxText b → HasOtherText files (beside word b.nodes) IsNodesText → ⊥
-nodes_clash one files word a b n h aux k =
-    let P : AuxNames → Type 0 = λ x. HasText files (beside word x.nodes) IsNodesText n in
-    not_both files (beside word b.nodes) IsNodesText n (subst P (one_names one files word a b h.aux aux) h.nodes_file) k
-
-pub nets_clash : OneReading → (files : List FileEntry) (word : List ℕ) (a b : AuxNames) (n m : List NodeEntry) (nets : List NetEntry) → HasNets files word a n nets → HasNodes files word b m → HasOtherText files (beside word b.nets) (λ text. IsNetsText text m) → ⊥
-nets_clash one files word a b n m nets h before k =
-    let P : AuxNames → Type 0 = λ x. HasText files (beside word x.nets) (λ text. IsNetsText text n) nets in
-    let Q : List NodeEntry → Type 0 = λ x. HasText files (beside word b.nets) (λ text. IsNetsText text x) nets in
-    not_both files (beside word b.nets) (λ text. IsNetsText text m) nets
-    (subst Q (one_nodes one files word a b n m h.before before) (subst P (one_names one files word a b h.before.aux before.aux) h.nets_file)) k
-
-pub places_clash : OneReading → (files : List FileEntry) (word : List ℕ) (a b : AuxNames) (n m : List NodeEntry) (nets : List NetEntry) (places : List PlaceEntry) → HasPlaces files word a n nets places → HasNodes files word b m → HasOtherText files (beside word b.pl) (λ text. IsPlText text m) → ⊥
-places_clash one files word a b n m nets places h before k =
-    let P : AuxNames → Type 0 = λ x. HasText files (beside word x.pl) (λ text. IsPlText text n) places in
-    let Q : List NodeEntry → Type 0 = λ x. HasText files (beside word b.pl) (λ text. IsPlText text x) places in
-    not_both files (beside word b.pl) (λ text. IsPlText text m) places
-    (subst Q (one_nodes one files word a b n m h.before.before before) (subst P (one_names one files word a b h.before.before.aux before.aux) h.places_file)) k
-
-pub row_clash : OneReading → (files : List FileEntry) (word : List ℕ) (a b : AuxNames) (row : RowEntry) → HasText files word IsAuxText a → HasText files word IsAuxText b → HasText files (beside word a.scl) IsSclText row → HasOtherText files (beside word b.scl) IsSclText → ⊥
-row_clash one files word a b row h aux scl k =
-    let P : AuxNames → Type 0 = λ x. HasText files (beside word x.scl) IsSclText row in
-    not_both files (beside word b.scl) IsSclText row (subst P (one_names one files word a b h aux) scl) k
-
-nodes_in : (files : List FileEntry) (word : List ℕ) (design : NarrowDesign) (h : IsNarrow files word design) → HasNodes files word h.names design.nodes
-nodes_in files word design h = record { aux = h.aux; nodes_file = h.nodes }
-
-nets_in : (files : List FileEntry) (word : List ℕ) (design : NarrowDesign) (h : IsNarrow files word design) → HasNets files word h.names design.nodes design.nets
-nets_in files word design h = record { before = nodes_in files word design h; nets_file = h.nets }
-
--- files in the narrow form are refused for none
-pub narrow_is_built : OneReading → (files : List FileEntry) (word : List ℕ) (design : NarrowDesign) (kind : FileKind) → IsNarrow files word design → IsUnbuilt files word kind → ⊥
-narrow_is_built one files word design Aux h k = aux_clash files word h.names h.aux k
-narrow_is_built one files word design Nodes h k = nodes_clash one files word h.names k.0 design.nodes (nodes_in files word design h) k.1 k.2
-narrow_is_built one files word design Nets h k = nets_clash one files word h.names k.0 design.nodes k.1 design.nets (nets_in files word design h) (record { aux = k.2; nodes_file = k.3 }) k.4
-narrow_is_built one files word design Wts h k = absurd k
-narrow_is_built one files word design Pl h k = places_clash one files word h.names k.0 design.nodes k.1 design.nets design.places (record { before = nets_in files word design h; places_file = h.pl }) (record { aux = k.3; nodes_file = k.4 }) k.6
-narrow_is_built one files word design Scl h k = row_clash one files word h.names k.0 design.row h.aux k.4 h.scl k.8
-
--- one file at most is the first that isn't in the narrow form
-pub one_refusal : OneReading → (files : List FileEntry) (word : List ℕ) (a b : FileKind) → IsUnbuilt files word a → IsUnbuilt files word b → a ≡ b
-one_refusal one files word Aux Aux h k = refl
-one_refusal one files word Nodes Nodes h k = refl
-one_refusal one files word Nets Nets h k = refl
-one_refusal one files word Pl Pl h k = refl
-one_refusal one files word Scl Scl h k = refl
-one_refusal one files word Wts b h k = absurd h
-one_refusal one files word a Wts h k = absurd k
-one_refusal one files word Aux Nodes h k = absurd (aux_clash files word k.0 k.1 h)
-one_refusal one files word Aux Nets h k = absurd (aux_clash files word k.0 k.2 h)
-one_refusal one files word Aux Pl h k = absurd (aux_clash files word k.0 k.3 h)
-one_refusal one files word Aux Scl h k = absurd (aux_clash files word k.0 k.4 h)
-one_refusal one files word Nodes Aux h k = absurd (aux_clash files word h.0 h.1 k)
-one_refusal one files word Nets Aux h k = absurd (aux_clash files word h.0 h.2 k)
-one_refusal one files word Pl Aux h k = absurd (aux_clash files word h.0 h.3 k)
-one_refusal one files word Scl Aux h k = absurd (aux_clash files word h.0 h.4 k)
-one_refusal one files word Nodes Nets h k = absurd (nodes_clash one files word k.0 h.0 k.1 (record { aux = k.2; nodes_file = k.3 }) h.1 h.2)
-one_refusal one files word Nodes Pl h k = absurd (nodes_clash one files word k.0 h.0 k.1 (record { aux = k.3; nodes_file = k.4 }) h.1 h.2)
-one_refusal one files word Nodes Scl h k = absurd (nodes_clash one files word k.0 h.0 k.1 (record { aux = k.4; nodes_file = k.5 }) h.1 h.2)
-one_refusal one files word Nets Nodes h k = absurd (nodes_clash one files word h.0 k.0 h.1 (record { aux = h.2; nodes_file = h.3 }) k.1 k.2)
-one_refusal one files word Pl Nodes h k = absurd (nodes_clash one files word h.0 k.0 h.1 (record { aux = h.3; nodes_file = h.4 }) k.1 k.2)
-one_refusal one files word Scl Nodes h k = absurd (nodes_clash one files word h.0 k.0 h.1 (record { aux = h.4; nodes_file = h.5 }) k.1 k.2)
-one_refusal one files word Nets Pl h k = absurd (nets_clash one files word k.0 h.0 k.1 h.1 k.2 (record { before = record { aux = k.3; nodes_file = k.4 }; nets_file = k.5 }) (record { aux = h.2; nodes_file = h.3 }) h.4)
-one_refusal one files word Nets Scl h k = absurd (nets_clash one files word k.0 h.0 k.1 h.1 k.2 (record { before = record { aux = k.4; nodes_file = k.5 }; nets_file = k.6 }) (record { aux = h.2; nodes_file = h.3 }) h.4)
-one_refusal one files word Pl Nets h k = absurd (nets_clash one files word h.0 k.0 h.1 k.1 h.2 (record { before = record { aux = h.3; nodes_file = h.4 }; nets_file = h.5 }) (record { aux = k.2; nodes_file = k.3 }) k.4)
-one_refusal one files word Scl Nets h k = absurd (nets_clash one files word h.0 k.0 h.1 k.1 h.2 (record { before = record { aux = h.4; nodes_file = h.5 }; nets_file = h.6 }) (record { aux = k.2; nodes_file = k.3 }) k.4)
-one_refusal one files word Pl Scl h k = absurd (places_clash one files word k.0 h.0 k.1 h.1 k.2 k.3 (record { before = record { before = record { aux = k.4; nodes_file = k.5 }; nets_file = k.6 }; places_file = k.7 }) (record { aux = h.3; nodes_file = h.4 }) h.6)
-one_refusal one files word Scl Pl h k = absurd (places_clash one files word h.0 k.0 h.1 k.1 h.2 h.3 (record { before = record { before = record { aux = h.4; nodes_file = h.5 }; nets_file = h.6 }; places_file = h.7 }) (record { aux = k.3; nodes_file = k.4 }) k.6)
+-- a design is refused by one cause at most
+pub one_refusal : OneAnswer → (files : List FileEntry) (word : List ℕ) (a b : Refusal) → IsRefusedAs files word a → IsRefusedAs files word b → a ≡ b
+one_refusal one files word a b h k = both (open_cause files word a h) (open_cause files word b k) where
+  both : Cause files word a → Cause files word b → a ≡ b
+  both (long x e l) (long y d m) = e ∙ ap TooLong (stops_once one files word x y (long_stops files word x l) (long_stops files word y m)) ∙ sym d
+  both (bad x f e l) (bad y g d m) = e ∙ one_bad one files word x y f g l m ∙ sym d
+  both (joined f e l) (joined g d m) = e ∙ ap Design (one_design_fault one files word f g l m) ∙ sym d
+  both (unbuilt e l) (unbuilt d m) = e ∙ sym d
+  both (long x e l) (bad y g d m) = absurd (long_or_bad one files word x y g l m)
+  both (bad x f e l) (long y d m) = absurd (long_or_bad one files word y x f m l)
+  both (long x e l) (joined g d m) = absurd (accepts_all one files word m.names m.inputs x m.accepted (long_stops files word x l))
+  both (long x e l) (unbuilt d m) = absurd (accepts_all one files word m.names m.inputs x m.accepted (long_stops files word x l))
+  both (bad x f e l) (joined g d m) = absurd (accepts_all one files word m.names m.inputs x m.accepted (bad_stops files word x f l))
+  both (bad x f e l) (unbuilt d m) = absurd (accepts_all one files word m.names m.inputs x m.accepted (bad_stops files word x f l))
+  both (joined f e l) (long y d m) = absurd (accepts_all one files word l.names l.inputs y l.accepted (long_stops files word y m))
+  both (unbuilt e l) (long y d m) = absurd (accepts_all one files word l.names l.inputs y l.accepted (long_stops files word y m))
+  both (joined f e l) (bad y g d m) = absurd (accepts_all one files word l.names l.inputs y l.accepted (bad_stops files word y g m))
+  both (unbuilt e l) (bad y g d m) = absurd (accepts_all one files word l.names l.inputs y l.accepted (bad_stops files word y g m))
+  both (joined f e l) (unbuilt d m) = absurd (joined_or_faulty one files word m.names m.inputs m.design f m.accepted m.joined l)
+  both (unbuilt e l) (joined g d m) = absurd (joined_or_faulty one files word l.names l.inputs l.design g l.accepted l.joined m)

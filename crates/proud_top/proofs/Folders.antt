@@ -1,9 +1,9 @@
 -- The part of a name up to and with its last slash.
-use Rattle.std.proofs.Common.{◌≡◌, ◌≢◌, ℕ, ◌+◌, ◌-◌, ◌<◌, ◌≤◌, true, false, not, eqb, List, [], length, take, get_or, refl, sym, ap, ◌∙◌, rules, arith}
+use Rattle.std.proofs.Common.{◌≡◌, ◌≢◌, ℕ, ◌+◌, ◌-◌, ◌<◌, true, false, List, [], length, take, get_or, refl, ap, ◌∙◌, arith}
 use Rattle.std.proofs.lemmas.Bool.Decides.{nat_tests}
 use Rattle.std.proofs.lemmas.List.Sums.{suffix_len_is}
 use Rattle.std.specs.List.{suffix_len}
-use Rattle.proud_top.specs.Design.{is_no_slash, folder_of}
+use Rattle.proud_top.specs.Request.{is_no_slash, folder_of}
 
 other_byte : (b : ℕ) → b ≢ 47 → is_no_slash b ≡ true
 other_byte b h = grind (arith, nat_tests)

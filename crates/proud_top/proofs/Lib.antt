@@ -1,10 +1,5 @@
-mod Pieces
 mod Folders
-mod Readings
-mod Movable
-mod Valid
-mod Numbering
-mod Formed
-mod Chain
+mod Once
 mod Clash
+mod Chain
 mod Outcomes

@@ -1,21 +1,34 @@
 -- What stands after each status of the top call.
-use Rattle.std.specs.Prelude.{◌≡◌, ◌⊎◌, ℕ, List, [], take, Option, Some, None}
+use Rattle.std.specs.Prelude.{◌≡◌, ◌⊎◌, ℕ, List, [], take, Option, Some, None, IfSome}
 use Rattle.std.specs.Io.KnownBytes.{Appends}
 use Rattle.book_outer.specs.Cause.{Rose}
 use Rattle.book_outer.specs.Files.{FileEntry}
 use Rattle.relax_system.specs.Extremal.{IsLeast, IsGreatest}
-use Rattle.proud_top.specs.declared.kind.FileKind.{FileKind}
-use Rattle.proud_top.specs.NarrowSystem.{NarrowDesign, system_of}
+use Rattle.book_files.specs.declared.records.FileKind.{FileKind}
+use Rattle.book_files.specs.Entries.{AuxEntry}
+use Rattle.book_design.specs.Files.{Files}
+use Rattle.book_design.specs.Values.{DesignValue}
+use Rattle.book_design.specs.Answers.{IsJoined}
+use Rattle.narrow_system.specs.NarrowSystem.{IsUnbuilt, system_of}
+use Rattle.proud_top.specs.declared.status.Refusal.{Refusal}
+use Rattle.proud_top.specs.Lines.{usage_line, cannot_read_line, refusal_line}
 use Rattle.proud_top.specs.Report.{report_of}
-use Rattle.proud_top.specs.Kinds.{usage_line, cannot_read_line, not_built_line}
-use Rattle.proud_top.specs.Design.{requested, IsNarrow, IsUnbuilt, IsReached}
+use Rattle.proud_top.specs.Request.{requested}
+use Rattle.proud_top.specs.Accepted.{Accepts}
+use Rattle.proud_top.specs.Refused.{IsRefused, IsNodeNameOf}
+use Rattle.proud_top.specs.Counts.{Counts, IsFaultPlace}
 
--- The text is the report of the design that the files spell: a line per point, with the least and the greatest vector of its system.
+-- The text is the report of the design that the accepted files make: a line per point, with the least and the greatest
+-- vector of its system.
 pub record IsReport (files : List FileEntry) (words : List (List ℕ)) (text : List ℕ) : Type 0 where
   pub word : List ℕ
   pub asked : requested words ≡ Some word
-  pub design : NarrowDesign
-  pub narrow : IsNarrow files word design
+  pub names : AuxEntry
+  pub inputs : Files
+  pub design : DesignValue
+  pub accepted : Accepts files word names inputs
+  pub joined : IsJoined inputs design
+  pub built : IsUnbuilt design → ⊥
   pub lo : List ℕ
   pub hi : List ℕ
   pub least : IsLeast (system_of design) lo
@@ -34,21 +47,20 @@ GotReportFront files words old new = (text : List ℕ) × IsReport files words t
 abbrev pub GotLine : ℕ → ℕ → Option (List ℕ) → Option (List ℕ) → List ℕ → Type 0
 GotLine before now old new line = Appends old new line ⊎ (Rose before now × ((n : ℕ) × Appends old new (take n line)))
 
--- exactly one word stands behind the program's name, and the file of that kind isn't in the narrow form, each before it being so
-abbrev pub IsRefused : List FileEntry → List (List ℕ) → FileKind → Type 0
-IsRefused files words kind = (word : List ℕ) × (requested words ≡ Some word) × IsUnbuilt files word kind
+-- The report got the line of the refusal, or a front of it where the put failed. Where the files are told and the refusal names a
+-- node, the line has that node's name.
+pub record GotRefusal (files : Option (List FileEntry)) (words : List (List ℕ)) (refusal : Refusal) (before now : ℕ) (old new : Option (List ℕ)) : Type 0 where
+  pub name : List ℕ
+  pub got : GotLine before now old new (refusal_line refusal name)
+  pub named : IfSome files (λ told. IsNodeNameOf told words refusal name)
 
--- exactly one word stands behind the program's name, and each file before that of the kind is in the narrow form
-abbrev pub HasReached : List FileEntry → List (List ℕ) → FileKind → Type 0
-HasReached files words kind = (word : List ℕ) × (requested words ≡ Some word) × IsReached files word kind
-
--- What the call would have put: the line of a refusal or of a fault with its cause, or the report.
-pub data IsDue (files : List FileEntry) (words : List (List ℕ)) (before now : ℕ) (text : List ℕ) : Type 0 where
+-- What the call would have put: the usage line, the line of a fault or of a refusal with its cause, or the report.
+pub data IsDue (files : List FileEntry) (words : List (List ℕ)) (before now : Counts) (text : List ℕ) : Type 0 where
   usage : requested words ≡ None → text ≡ usage_line → IsDue files words before now text
-  unread : (kind : FileKind) → HasReached files words kind → Rose before now → text ≡ cannot_read_line kind → IsDue files words before now text
-  unbuilt : (kind : FileKind) → IsRefused files words kind → text ≡ not_built_line kind → IsDue files words before now text
+  unread : (kind : FileKind) → IsFaultPlace files words kind before now → Rose before.faults now.faults → text ≡ cannot_read_line kind → IsDue files words before now text
+  refused : (refusal : Refusal) (name : List ℕ) → IsRefused files words refusal → IsNodeNameOf files words refusal name → text ≡ refusal_line refusal name → IsDue files words before now text
   report : IsReport files words text → IsDue files words before now text
 
 -- After want of memory the report got nothing, or a front of what the call would have put.
-abbrev pub GotDueFront : List FileEntry → List (List ℕ) → ℕ → ℕ → Option (List ℕ) → Option (List ℕ) → Type 0
+abbrev pub GotDueFront : List FileEntry → List (List ℕ) → Counts → Counts → Option (List ℕ) → Option (List ℕ) → Type 0
 GotDueFront files words before now old new = Appends old new [] ⊎ ((text : List ℕ) × IsDue files words before now text × ((n : ℕ) × Appends old new (take n text)))

@@ -3,14 +3,13 @@ use Rattle.std.specs.Prelude.{◌≡◌, ◌⊎◌, ℕ, List, take, Option, Non
 use Rattle.std.specs.Io.KnownBytes.{Appends}
 use Rattle.book_outer.specs.Cause.{Rose}
 use Rattle.book_outer.specs.Files.{FileEntry}
-use Rattle.proud_top.specs.declared.kind.FileKind.{FileKind}
-use Rattle.proud_top.specs.declared.kind.FileKind.TheVariants.{Wts}
 use Rattle.proud_top.specs.declared.status.Status.{Status}
 use Rattle.proud_top.specs.declared.status.Status.TheVariants.{Done, Usage, Refused, ReadFault, WriteFault, Memory}
-use Rattle.proud_top.specs.declared.status.Refusal.TheVariants.{NotBuilt}
-use Rattle.proud_top.specs.Kinds.{usage_line, cannot_read_line, not_built_line}
-use Rattle.proud_top.specs.Design.{requested}
-use Rattle.proud_top.specs.Answers.{GotReport, GotReportFront, GotLine, GotDueFront, IsRefused, HasReached}
+use Rattle.proud_top.specs.Lines.{usage_line, cannot_read_line}
+use Rattle.proud_top.specs.Request.{requested}
+use Rattle.proud_top.specs.Refused.{IsRefused}
+use Rattle.proud_top.specs.Counts.{Counts, IsFaultPlace}
+use Rattle.proud_top.specs.Answers.{GotReport, GotReportFront, GotLine, GotRefusal, GotDueFront}
 
 -- a count before and after
 pub record Change : Type 0 where
@@ -34,10 +33,10 @@ abbrev pub IsAsked : List (List ℕ) → Type 0
 IsAsked words = requested words ≡ None → ⊥
 
 -- what the status says of the files, the words, the counts and the report
-abbrev pub Outcome : Option (List FileEntry) → List (List ℕ) → Change → Change → Option (List ℕ) → Option (List ℕ) → Status → Type 0
-Outcome files words reads faults old new Done = IsAsked words × IfSome files (λ told. GotReport told words old new) × (reads.now ≡ reads.before) × (faults.now ≡ faults.before)
-Outcome files words reads faults old new Usage = (requested words ≡ None) × GotLine faults.before faults.now old new usage_line
-Outcome files words reads faults old new (Refused (NotBuilt kind)) = IsAsked words × IfSome files (λ told. IsRefused told words kind) × (reads.now ≡ reads.before) × (kind ≡ Wts → ⊥) × GotLine faults.before faults.now old new (not_built_line kind)
-Outcome files words reads faults old new (ReadFault kind) = IsAsked words × IfSome files (λ told. HasReached told words kind) × Rose reads.before reads.now × (kind ≡ Wts → ⊥) × GotLine faults.before faults.now old new (cannot_read_line kind)
-Outcome files words reads faults old new WriteFault = IsAsked words × IfSome files (λ told. GotReportFront told words old new) × (reads.now ≡ reads.before) × Rose faults.before faults.now
-Outcome files words reads faults old new Memory = IfSome files (λ told. GotDueFront told words reads.before reads.now old new) × (requested words ≡ None → (n : ℕ) × Appends old new (take n usage_line))
+abbrev pub Outcome : Option (List FileEntry) → List (List ℕ) → Counts → Counts → Change → Option (List ℕ) → Option (List ℕ) → Status → Type 0
+Outcome files words before now faults old new Done = IsAsked words × IfSome files (λ told. GotReport told words old new) × (now.faults ≡ before.faults) × (faults.now ≡ faults.before)
+Outcome files words before now faults old new Usage = (requested words ≡ None) × GotLine faults.before faults.now old new usage_line
+Outcome files words before now faults old new (Refused refusal) = IsAsked words × IfSome files (λ told. IsRefused told words refusal) × (now.faults ≡ before.faults) × GotRefusal files words refusal faults.before faults.now old new
+Outcome files words before now faults old new (ReadFault kind) = IsAsked words × IfSome files (λ told. IsFaultPlace told words kind before now) × Rose before.faults now.faults × GotLine faults.before faults.now old new (cannot_read_line kind)
+Outcome files words before now faults old new WriteFault = IsAsked words × IfSome files (λ told. GotReportFront told words old new) × (now.faults ≡ before.faults) × Rose faults.before faults.now
+Outcome files words before now faults old new Memory = IfSome files (λ told. GotDueFront told words before now old new) × (requested words ≡ None → (n : ℕ) × Appends old new (take n usage_line))

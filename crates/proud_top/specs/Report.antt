@@ -1,7 +1,6 @@
 -- The report: for each point its name and its lower and upper coordinate.
 use Rattle.std.specs.Prelude.{ℕ, ◌-◌, List, [], ◌∷◌, ◌++◌, decimal, nat_lt, if◌then◌else◌}
-use Rattle.narrow_form.specs.Narrow.{NodeEntry}
-use Rattle.proud_top.specs.NarrowSystem.{NarrowDesign}
+use Rattle.book_design.specs.Values.{NodeValue, DesignValue}
 
 -- a coordinate as a signed decimal of millionths
 abbrev pub signed_text : ℕ → List ℕ
@@ -18,14 +17,10 @@ report_lines [] los his = []
 report_lines (name ∷ names) [] his = []
 report_lines (name ∷ names) (lo ∷ los) [] = []
 
--- the names of the nodes that are no terminals, in order
-abbrev pub names_of : List NodeEntry → List (List ℕ)
+-- the names of the movable nodes, in order; they are the points
+abbrev pub names_of : List NodeValue → List (List ℕ)
 names_of [] = []
-names_of (node ∷ nodes) = if node.terminal then names_of nodes else node.name ∷ names_of nodes
+names_of (node ∷ nodes) = if node.fixed then names_of nodes else node.name ∷ names_of nodes
 
--- the names of the points
-abbrev pub point_names : NarrowDesign → List (List ℕ)
-point_names design = names_of design.nodes
-
-abbrev pub report_of : NarrowDesign → List ℕ → List ℕ → List ℕ
-report_of design lo hi = report_lines (point_names design) lo hi
+abbrev pub report_of : DesignValue → List ℕ → List ℕ → List ℕ
+report_of design lo hi = report_lines (names_of design.nodes) lo hi

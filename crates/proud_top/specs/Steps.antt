@@ -1,38 +1,127 @@
--- What the steps of a run answer: what a file gives, or what stops the run at it.
-use Rattle.std.specs.Prelude.{◌≡◌, ℕ, ◌≤◌, List, length, Option, Some, IfSome, Result, Ok, Err}
-use Rattle.book_outer.specs.Cause.{Rose}
+-- What the steps of a run answer: a file's bytes, its records, and what the records make.
+use Rattle.std.specs.Prelude.{◌≡◌, ℕ, ◌≤◌, List, length, slice_get, Option, Some, None, IfSome, Result, Ok, Err, Vec}
+use Rattle.std.specs.declared.alloc.Global.{Global}
+use Rattle.book_outer.specs.Cause.{Rose, one_more}
 use Rattle.book_outer.specs.Files.{FileEntry, content}
-use Rattle.relax_system.specs.Extremal.{IsLeast, IsGreatest}
-use Rattle.proud_top.specs.declared.kind.FileKind.{FileKind}
+use Rattle.book_outer.specs.Folder.{missed_after}
+use Rattle.book_files.specs.declared.records.FileKind.{FileKind}
+use Rattle.book_files.specs.declared.records.FileKind.TheVariants.{Nets, Wts}
+use Rattle.book_files.specs.declared.fault.TextFault.{TextFault}
+use Rattle.book_files.specs.declared.fault.ReadError.{ReadError}
+use Rattle.book_files.specs.declared.fault.ReadError.TheVariants as read_error
+use Rattle.book_files.specs.Loading.{most_bytes, HasLongText}
+use Rattle.book_design.specs.declared.fault.DesignFault.{DesignFault}
+use Rattle.book_design.specs.Files.{Files}
+use Rattle.book_design.specs.Values.{DesignValue}
+use Rattle.book_design.specs.Faults.{IsFirstFault}
+use Rattle.book_design.specs.Answers.{IsJoined}
+use Rattle.book_files.specs.Entries.{NodeEntry, WeightEntry}
+use Rattle.book_files.specs.Grammar.{IsReading}
+use Rattle.book_files.specs.WeightRules.{weights_grammar}
+use Rattle.narrow_system.specs.NarrowSystem.{IsUnbuilt}
+use Rattle.proud_top.specs.declared.status.Refusal.{Refusal}
+use Rattle.proud_top.specs.declared.status.Refusal.TheVariants.{TooLong, Text, Design, NotBuilt}
 use Rattle.proud_top.specs.declared.stop.Stop.{Stop}
-use Rattle.proud_top.specs.declared.stop.Stop.TheVariants.{Unread, Unbuilt, Memory}
-use Rattle.proud_top.specs.Loading.{most_bytes}
-use Rattle.proud_top.specs.NarrowSystem.{NarrowDesign, system_of}
-use Rattle.proud_top.specs.Report.{report_of}
-
--- What the file of the kind gives; or that it couldn't be read, after which the count of faults rose; or that it has another
--- form; or want of memory. The count of faults is as before at any other answer than a fault.
-abbrev pub Answered : {A : Type 0} → FileKind → (A → Type 0) → Type 0 → ℕ → ℕ → Result A Stop → Type 0
-Answered kind IsGiven IsOther before now (Ok answer) = IsGiven answer × (now ≡ before)
-Answered kind IsGiven IsOther before now (Err (Unread other)) = (other ≡ kind) × Rose before now
-Answered kind IsGiven IsOther before now (Err (Unbuilt other)) = (other ≡ kind) × IsOther × (now ≡ before)
-Answered kind IsGiven IsOther before now (Err Memory) = now ≡ before
+use Rattle.proud_top.specs.declared.stop.Stop.TheVariants.{Unread, Refused, Memory}
+use Rattle.proud_top.specs.Counts.{Counts}
+use Rattle.proud_top.specs.Request.{beside}
+use Rattle.proud_top.specs.Accepted.{IsFaultOf}
+use Rattle.proud_top.specs.Refused.{node_of_fault}
+use Rattle.proud_top.specs.Stops.{IsDesignReport, IsReportText}
 
 -- what the file holds
 pub record IsText (files : Option (List FileEntry)) (name text : List ℕ) : Type 0 where
   pub there : IfSome files (λ told. content told name ≡ Some text)
   pub short : length text ≤ most_bytes
 
--- the file's text was read as the record
-pub record WasRead {R : Type 0} (files : Option (List FileEntry)) (name : List ℕ) (IsRead : List ℕ → R → Type 0) (read : R) : Type 0 where
-  pub text : List ℕ
-  pub held : IsText files name text
-  pub is_read : IsRead text read
+-- one file was begun
+pub record BeginsOne (files : Option (List FileEntry)) (name : List ℕ) (before now : Counts) : Type 0 where
+  pub begun : now.begun ≡ one_more before.begun
+  pub missed : now.missed ≡ missed_after files name before.missed
 
--- the text is the report of the design, with the least and the greatest vector of its system
-pub record IsReportText (design : NarrowDesign) (text : List ℕ) : Type 0 where
-  pub lo : List ℕ
-  pub hi : List ℕ
-  pub least : IsLeast (system_of design) lo
-  pub greatest : IsGreatest (system_of design) hi
-  pub told : text ≡ report_of design lo hi
+-- The bytes of the file of the kind; or that it is too long; or that it couldn't be read, after which the count of faults rose;
+-- or want of memory. The count of faults is as before at any other answer than a fault.
+abbrev pub Loads : FileKind → Option (List FileEntry) → List ℕ → Counts → Counts → Result (Vec ℕ Global) Stop → Type 0
+Loads kind files name before now (Ok bytes) = IsText files name bytes.items × BeginsOne files name before now × (now.faults ≡ before.faults)
+Loads kind files name before now (Err (Refused refusal node)) = (refusal ≡ TooLong kind) × IfSome files (λ told. HasLongText told name) × (now.faults ≡ before.faults)
+Loads kind files name before now (Err (Unread other)) = (other ≡ kind) × BeginsOne files name before now × Rose before.faults now.faults
+Loads kind files name before now (Err Memory) = now.faults ≡ before.faults
+
+-- the refusal of a file of the kind by its text's first fault, or want of memory
+abbrev pub Faults : FileKind → List ℕ → Stop → Type 0
+Faults kind text (Refused refusal node) = (fault : TextFault) × (refusal ≡ Text kind fault) × IsFaultOf kind text fault
+Faults kind text (Unread other) = ⊥
+Faults kind text Memory = Unit {0}
+
+-- the answer of a reader of files of the kind, as an answer of a step
+abbrev pub IsTold : {T : Type 0} → FileKind → Result T ReadError → Result T Stop → Type 0
+IsTold kind (Ok records) (Ok same) = same ≡ records
+IsTold kind (Err (read_error.Fault fault)) (Err (Refused refusal node)) = refusal ≡ Text kind fault
+IsTold kind (Err read_error.Memory) (Err Memory) = Unit {0}
+IsTold kind (Ok records) (Err stop) = ⊥
+IsTold kind (Err error) (Ok records) = ⊥
+IsTold kind (Err (read_error.Fault fault)) (Err (Unread other)) = ⊥
+IsTold kind (Err (read_error.Fault fault)) (Err Memory) = ⊥
+IsTold kind (Err read_error.Memory) (Err (Unread other)) = ⊥
+IsTold kind (Err read_error.Memory) (Err (Refused refusal node)) = ⊥
+
+-- The bytes of the file of weights, and none where none is named.
+abbrev pub LoadsWeights : Option (List FileEntry) → List ℕ → Option (List ℕ) → Counts → Counts → Result (Option (Vec ℕ Global)) Stop → Type 0
+LoadsWeights files word None before now (Ok None) = now ≡ before
+LoadsWeights files word None before now (Ok (Some bytes)) = ⊥
+LoadsWeights files word None before now (Err stop) = ⊥
+LoadsWeights files word (Some name) before now (Ok None) = ⊥
+LoadsWeights files word (Some name) before now (Ok (Some bytes)) = Loads Wts files (beside word name) before now (Ok bytes)
+LoadsWeights files word (Some name) before now (Err stop) = Loads Wts files (beside word name) before now (Err stop)
+
+-- The weights that the text reads as, or its first fault, and none where there is no text.
+abbrev pub GivesWeights : Option (List ℕ) → Result (Option (List WeightEntry)) Stop → Type 0
+GivesWeights None (Ok None) = Unit {0}
+GivesWeights None (Ok (Some weights)) = ⊥
+GivesWeights None (Err stop) = ⊥
+GivesWeights (Some text) (Ok None) = ⊥
+GivesWeights (Some text) (Ok (Some weights)) = IsReading weights_grammar text weights
+GivesWeights (Some text) (Err stop) = Faults Wts text stop
+
+-- the node of that number has this name
+abbrev pub IsNameIn : List NodeEntry → List ℕ → ℕ → Type 0
+IsNameIn nodes name number = (node : NodeEntry) × (slice_get nodes number ≡ Some node) × (name ≡ node.name)
+
+-- the files together have this first fault, and the name is that of the node that it names
+pub record IsFaultNamed (inputs : Files) (fault : DesignFault) (name : List ℕ) : Type 0 where
+  pub faulty : IsFirstFault inputs fault
+  pub named : IfSome (node_of_fault fault) (IsNameIn inputs.nodes name)
+
+-- the records make a design that isn't built yet
+pub record IsUnbuiltJoin (inputs : Files) : Type 0 where
+  pub design : DesignValue
+  pub joined : IsJoined inputs design
+  pub unbuilt : IsUnbuilt design
+
+-- a refusal of what the records make
+abbrev pub IsRefusalOf : Files → Refusal → List ℕ → Type 0
+IsRefusalOf inputs (Design fault) name = IsFaultNamed inputs fault name
+IsRefusalOf inputs (NotBuilt Nets) name = IsUnbuiltJoin inputs
+IsRefusalOf inputs (NotBuilt other) name = ⊥
+IsRefusalOf inputs (TooLong kind) name = ⊥
+IsRefusalOf inputs (Text kind fault) name = ⊥
+
+-- the refusal of the files together by this fault, with the name of the node that it names
+abbrev pub IsRefusal : List NodeEntry → DesignFault → Stop → Type 0
+IsRefusal nodes fault (Refused refusal name) = (refusal ≡ Design fault) × IfSome (node_of_fault fault) (IsNameIn nodes name.items)
+IsRefusal nodes fault (Unread kind) = ⊥
+IsRefusal nodes fault Memory = Unit {0}
+
+-- the report of the design, or that it isn't built yet
+abbrev pub SolvesDesign : DesignValue → Result (Vec ℕ Global) Stop → Type 0
+SolvesDesign design (Ok text) = IsDesignReport design text.items
+SolvesDesign design (Err (Refused refusal name)) = (refusal ≡ NotBuilt Nets) × IsUnbuilt design
+SolvesDesign design (Err (Unread kind)) = ⊥
+SolvesDesign design (Err Memory) = Unit {0}
+
+-- the report of what the records make, or why that is refused
+abbrev pub Solves : Files → Result (Vec ℕ Global) Stop → Type 0
+Solves inputs (Ok text) = IsReportText inputs text.items
+Solves inputs (Err (Refused refusal name)) = IsRefusalOf inputs refusal name.items
+Solves inputs (Err (Unread kind)) = ⊥
+Solves inputs (Err Memory) = Unit {0}

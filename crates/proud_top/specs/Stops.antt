@@ -1,43 +1,53 @@
--- What the reading of all five files answers: what they say, a refusal with its cause, a fault with its cause, or want of memory.
+-- What a run up to its report answers: the report, or what stopped it.
 use Rattle.std.specs.Prelude.{◌≡◌, ℕ, List, Option, Result, Ok, Err, IfSome, Vec}
 use Rattle.std.specs.declared.alloc.Global.{Global}
 use Rattle.book_outer.specs.Cause.{Rose}
 use Rattle.book_outer.specs.Files.{FileEntry}
 use Rattle.relax_system.specs.Extremal.{IsLeast, IsGreatest}
-use Rattle.proud_top.specs.declared.kind.FileKind.{FileKind}
-use Rattle.proud_top.specs.declared.kind.FileKind.TheVariants.{Wts}
+use Rattle.book_files.specs.Entries.{AuxEntry}
+use Rattle.book_design.specs.Files.{Files}
+use Rattle.book_design.specs.Values.{DesignValue}
+use Rattle.book_design.specs.Answers.{IsJoined}
+use Rattle.narrow_system.specs.NarrowSystem.{IsUnbuilt, system_of}
+use Rattle.proud_top.specs.declared.status.Refusal.{Refusal}
 use Rattle.proud_top.specs.declared.stop.Stop.{Stop}
-use Rattle.proud_top.specs.declared.stop.Stop.TheVariants.{Unbuilt, Unread, Memory}
-use Rattle.proud_top.specs.NarrowSystem.{NarrowDesign, system_of}
+use Rattle.proud_top.specs.declared.stop.Stop.TheVariants.{Refused, Unread, Memory}
 use Rattle.proud_top.specs.Report.{report_of}
-use Rattle.proud_top.specs.Design.{HasText, HasOtherText, IsNarrow, IsUnbuilt, IsReached}
+use Rattle.proud_top.specs.Accepted.{Accepts}
+use Rattle.proud_top.specs.Refused.{IsRefusedAs, IsNodeName}
+use Rattle.proud_top.specs.Counts.{Counts, IsFaultAt}
 
--- the text is the report of the design that the files spell
-pub record IsReportOf (files : List FileEntry) (word text : List ℕ) : Type 0 where
-  pub design : NarrowDesign
-  pub narrow : IsNarrow files word design
+-- the text is the report of the design, with the least and the greatest vector of its system
+pub record IsDesignReport (design : DesignValue) (text : List ℕ) : Type 0 where
+  pub built : IsUnbuilt design → ⊥
   pub lo : List ℕ
   pub hi : List ℕ
   pub least : IsLeast (system_of design) lo
   pub greatest : IsGreatest (system_of design) hi
   pub told : text ≡ report_of design lo hi
 
--- The report of what the files spell; or that the file of the kind isn't in the narrow form or couldn't be read, each before it
--- being so. The count of read faults stands still at any other answer than a fault.
-abbrev pub Places : Option (List FileEntry) → List ℕ → ℕ → ℕ → Result (List ℕ) Stop → Type 0
-Places files word before now (Ok text) = IfSome files (λ told. IsReportOf told word text) × (now ≡ before)
-Places files word before now (Err (Unbuilt kind)) = IfSome files (λ told. IsUnbuilt told word kind) × (now ≡ before)
-Places files word before now (Err (Unread kind)) = IfSome files (λ told. IsReached told word kind) × Rose before now
-Places files word before now (Err Memory) = now ≡ before
+-- the text is the report of the design that these records make
+pub record IsReportText (inputs : Files) (text : List ℕ) : Type 0 where
+  pub design : DesignValue
+  pub joined : IsJoined inputs design
+  pub reported : IsDesignReport design text
 
--- a refusal and a fault are never of the weights
-abbrev pub HasNoWeights : {A : Type 0} → Result A Stop → Type 0
-HasNoWeights (Ok answer) = Unit {0}
-HasNoWeights (Err (Unbuilt kind)) = kind ≡ Wts → ⊥
-HasNoWeights (Err (Unread kind)) = kind ≡ Wts → ⊥
-HasNoWeights (Err Memory) = Unit {0}
+-- the text is the report of the design that the files make
+pub record IsReportOf (files : List FileEntry) (word text : List ℕ) : Type 0 where
+  pub names : AuxEntry
+  pub inputs : Files
+  pub accepted : Accepts files word names inputs
+  pub reported : IsReportText inputs text
 
--- the answer with its bytes as a list
-abbrev pub text_of : Result (Vec ℕ Global) Stop → Result (List ℕ) Stop
-text_of (Ok text) = Ok text.items
-text_of (Err stop) = Err stop
+-- the files are refused by this, and the name is that of the node that it names
+pub record IsStopped (files : List FileEntry) (word : List ℕ) (refusal : Refusal) (name : List ℕ) : Type 0 where
+  pub cause : IsRefusedAs files word refusal
+  pub named : IsNodeName files word refusal name
+
+-- The report of what the files make; or why they are refused; or at which file a fault stands. The count of read faults stands
+-- still at any other answer than a fault.
+abbrev pub Places : Option (List FileEntry) → List ℕ → Counts → Counts → Result (Vec ℕ Global) Stop → Type 0
+Places files word before now (Ok text) = IfSome files (λ told. IsReportOf told word text.items) × (now.faults ≡ before.faults)
+Places files word before now (Err (Refused refusal name)) = IfSome files (λ told. IsStopped told word refusal name.items) × (now.faults ≡ before.faults)
+Places files word before now (Err (Unread kind)) = IfSome files (λ told. IsFaultAt told word kind before now) × Rose before.faults now.faults
+Places files word before now (Err Memory) = now.faults ≡ before.faults

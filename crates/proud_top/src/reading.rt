@@ -1,116 +1,86 @@
-//! The five files of a narrow design, one after another, and the report of what they spell.
+//! The files of a design, one after another, and the report of what they make.
 
-ghost use Rattle.std.specs.Prelude.{◌≡◌, ◌≢◌, ℕ, ◌≤◌, List, IfOk, IfSome, length, string_bytes, AllPairs};
-ghost use Rattle.narrow_form.specs.Narrow.{IsNetsText, IsPlText, IsSclText};
-ghost use Rattle.narrow_form.specs.Views.{node_entries, net_entries, place_entries, row_entry};
-ghost use Rattle.proud_top.specs.declared.kind.FileKind.TheVariants.{Nets, Pl, Scl};
-ghost use Rattle.proud_top.specs.Loading.{HasLongText};
-ghost use Rattle.proud_top.specs.Design.{beside, folder_of, HasOtherText};
-ghost use Rattle.proud_top.specs.WellFormed.{design_of, IsWellFormed};
-ghost use Rattle.proud_top.specs.Steps.{Answered, IsText, WasRead, IsReportText};
-ghost use Rattle.proud_top.specs.Stops.{Places, HasNoWeights, text_of};
+ghost use Rattle.std.specs.Prelude.{◌≡◌, IfOk, option_map, string_bytes};
+ghost use Rattle.proud_top.specs.Request.{beside, folder_of};
+ghost use Rattle.proud_top.specs.Counts.{Counts};
+ghost use Rattle.proud_top.specs.Steps.{Loads, LoadsWeights, GivesWeights, IsTold};
+ghost use Rattle.proud_top.specs.Stops.{Places};
 
-use crate::equations::equations;
-use crate::kind::FileKind;
-use crate::load::{LoadError, load};
-use crate::report::report_text;
+use crate::solving::solved;
+use crate::status::Refusal;
 use crate::stop::Stop;
+use book_files::{
+    FileKind, LoadError, ReadError, WeightFile, load, read_aux, read_nets, read_nodes, read_pl,
+    read_scl, read_wts,
+};
 use book_outer::Folder;
 use book_text::Memory;
-use narrow_form::{Net, Node, Place, Row, read_aux, read_nets, read_nodes, read_pl, read_scl};
-use relax_system::{greatest_plain, least_plain};
 use std::alloc::Global;
 
 /// The report of the design that the word names. Each file is loaded and read before the next is begun.
 pub(crate) fn placed<F: Folder>(alloc: Global, folder: &mut F, word: &str) -> Result<Vec<u8>, Stop>
-    ensures places { Places (F.files folder.old) word.now (F.read_faults folder.old) (F.read_faults folder.new) (text_of result) }
-    ensures weights { HasNoWeights result }
+    ensures places { Places (F.files folder.old) word.now
+        (record { begun = F.begun folder.old; missed = F.missed folder.old; faults = F.read_faults folder.old })
+        (record { begun = F.begun folder.new; missed = F.missed folder.new; faults = F.read_faults folder.new }) result }
     ensures files { F.files folder.new ≡ F.files folder.old }
     ensures write_faults { F.write_faults folder.new ≡ F.write_faults folder.old }
 {
     let text = load_as(alloc, folder, FileKind::Aux, word)?;
-    let names = read_aux(alloc, &text)?.ok_or(Stop::Unbuilt(FileKind::Aux))?;
+    let names = told(alloc, FileKind::Aux, read_aux(alloc, &text))?;
     let node_text = load_beside(alloc, folder, FileKind::Nodes, word, names.nodes)?;
-    let nodes = read_nodes(alloc, &node_text)?.ok_or(Stop::Unbuilt(FileKind::Nodes))?;
-    let nets = read_nets_beside(alloc, folder, word, names.nets, &nodes)?;
-    let places = read_pl_beside(alloc, folder, word, names.pl, &nodes)?;
-    let row = read_scl_beside(alloc, folder, word, names.scl)?;
-    Ok(solved(alloc, &nodes, &nets, &places, row)?)
+    let nodes = told(alloc, FileKind::Nodes, read_nodes(alloc, &node_text))?;
+    let net_text = load_beside(alloc, folder, FileKind::Nets, word, names.nets)?;
+    let nets = told(alloc, FileKind::Nets, read_nets(alloc, &net_text))?;
+    let weight_text = load_weights(alloc, folder, word, names.wts)?;
+    let weights = read_weights(alloc, weight_text.as_deref())?;
+    let place_text = load_beside(alloc, folder, FileKind::Pl, word, names.pl)?;
+    let places = told(alloc, FileKind::Pl, read_pl(alloc, &place_text))?;
+    let row_text = load_beside(alloc, folder, FileKind::Scl, word, names.scl)?;
+    let rows = told(alloc, FileKind::Scl, read_scl(alloc, &row_text))?;
+    solved(alloc, &nodes, &nets, weights.as_ref(), &places, &rows)
 }
 
-/// The report of a design, whose system is solved from below and from above.
-fn solved(
-    alloc: Global,
-    nodes: &[Node<'_>],
-    nets: &[Net],
-    places: &[Place],
-    row: Row,
-) -> Result<Vec<u8>, Memory>
-    requires { IsWellFormed (design_of nodes.now nets.now places.now row) }
-    ensures { IfOk result (λ text. IsReportText (design_of nodes.now nets.now places.now row) text.items) }
+/// The answer of a reader, with the kind of the file at a fault.
+fn told<T>(alloc: Global, kind: FileKind, answer: Result<T, ReadError>) -> Result<T, Stop>
+    ensures { IsTold kind answer result }
 {
-    let system = equations(alloc, nodes, nets, places, row)?;
-    let lo = least_plain(alloc, &system)?;
-    let hi = greatest_plain(alloc, &system)?;
-    report_text(alloc, nodes, lo.as_slice(), hi.as_slice())
+    match answer {
+        Ok(records) => Ok(records),
+        Err(ReadError::Fault(fault)) => Err(Stop::Refused(
+            Refusal::Text(kind, fault),
+            Vec::new(alloc),
+        )),
+        Err(ReadError::Memory) => Err(Stop::Memory),
+    }
 }
 
-/// The nets, from the file that stands beside the design's aux file.
-fn read_nets_beside<F: Folder>(
-    alloc: Global,
-    folder: &mut F,
-    design: &str,
-    name: &str,
-    nodes: &[Node<'_>],
-) -> Result<Vec<Net>, Stop>
-    requires few { length nodes.now ≤ 1000000 }
-    requires distinct { AllPairs (λ a b. a.name ≢ b.name) (node_entries nodes.now) }
-    ensures answer { Answered Nets
-        (λ nets. WasRead (F.files folder.old) (beside design.now name.now) (λ text. IsNetsText text (node_entries nodes.now)) (net_entries nets.items))
-        (IfSome (F.files folder.old) (λ told. HasOtherText told (beside design.now name.now) (λ text. IsNetsText text (node_entries nodes.now))))
-        (F.read_faults folder.old) (F.read_faults folder.new) result }
-    ensures files { F.files folder.new ≡ F.files folder.old }
-    ensures write_faults { F.write_faults folder.new ≡ F.write_faults folder.old }
+/// The weights, where there is a text of them.
+fn read_weights<'a>(alloc: Global, text: Option<&'a [u8]>) -> Result<Option<WeightFile<'a>>, Stop>
+    ensures { GivesWeights (option_map (λ t. t.now) text.entry) result }
 {
-    let text = load_beside(alloc, folder, FileKind::Nets, design, name)?;
-    read_nets(alloc, &text, nodes)?.ok_or(Stop::Unbuilt(FileKind::Nets))
+    match text {
+        Some(text) => Ok(Some(told(alloc, FileKind::Wts, read_wts(alloc, text))?)),
+        None => Ok(None),
+    }
 }
 
-/// The places of the nodes, from the file that stands beside the design's aux file.
-fn read_pl_beside<F: Folder>(
+/// The bytes of the file of weights, where the aux file names one.
+fn load_weights<F: Folder>(
     alloc: Global,
     folder: &mut F,
     design: &str,
-    name: &str,
-    nodes: &[Node<'_>],
-) -> Result<Vec<Place>, Stop>
-    ensures answer { Answered Pl
-        (λ places. WasRead (F.files folder.old) (beside design.now name.now) (λ text. IsPlText text (node_entries nodes.now)) (place_entries places.items))
-        (IfSome (F.files folder.old) (λ told. HasOtherText told (beside design.now name.now) (λ text. IsPlText text (node_entries nodes.now))))
-        (F.read_faults folder.old) (F.read_faults folder.new) result }
+    name: Option<&str>,
+) -> Result<Option<Vec<u8>>, Stop>
+    ensures answer { LoadsWeights (F.files folder.old) design.now (option_map (λ n. n.now) name.entry)
+        (record { begun = F.begun folder.old; missed = F.missed folder.old; faults = F.read_faults folder.old })
+        (record { begun = F.begun folder.new; missed = F.missed folder.new; faults = F.read_faults folder.new }) result }
     ensures files { F.files folder.new ≡ F.files folder.old }
     ensures write_faults { F.write_faults folder.new ≡ F.write_faults folder.old }
 {
-    let text = load_beside(alloc, folder, FileKind::Pl, design, name)?;
-    read_pl(alloc, &text, nodes)?.ok_or(Stop::Unbuilt(FileKind::Pl))
-}
-
-/// The row, from the file that stands beside the design's aux file.
-fn read_scl_beside<F: Folder>(
-    alloc: Global,
-    folder: &mut F,
-    design: &str,
-    name: &str,
-) -> Result<Row, Stop>
-    ensures answer { Answered Scl
-        (λ row. WasRead (F.files folder.old) (beside design.now name.now) IsSclText (row_entry row))
-        (IfSome (F.files folder.old) (λ told. HasOtherText told (beside design.now name.now) IsSclText))
-        (F.read_faults folder.old) (F.read_faults folder.new) result }
-    ensures files { F.files folder.new ≡ F.files folder.old }
-    ensures write_faults { F.write_faults folder.new ≡ F.write_faults folder.old }
-{
-    let text = load_beside(alloc, folder, FileKind::Scl, design, name)?;
-    read_scl(alloc, &text)?.ok_or(Stop::Unbuilt(FileKind::Scl))
+    match name {
+        Some(name) => Ok(Some(load_beside(alloc, folder, FileKind::Wts, design, name)?)),
+        None => Ok(None),
+    }
 }
 
 /// The bytes of the file of the kind, which stands beside the design's aux file.
@@ -121,9 +91,9 @@ fn load_beside<F: Folder>(
     design: &str,
     name: &str,
 ) -> Result<Vec<u8>, Stop>
-    ensures answer { Answered kind (λ bytes. IsText (F.files folder.old) (beside design.now name.now) bytes.items)
-        (IfSome (F.files folder.old) (λ told. HasLongText told (beside design.now name.now)))
-        (F.read_faults folder.old) (F.read_faults folder.new) result }
+    ensures answer { Loads kind (F.files folder.old) (beside design.now name.now)
+        (record { begun = F.begun folder.old; missed = F.missed folder.old; faults = F.read_faults folder.old })
+        (record { begun = F.begun folder.new; missed = F.missed folder.new; faults = F.read_faults folder.new }) result }
     ensures files { F.files folder.new ≡ F.files folder.old }
     ensures write_faults { F.write_faults folder.new ≡ F.write_faults folder.old }
 {
@@ -138,16 +108,16 @@ fn load_as<F: Folder>(
     kind: FileKind,
     name: &str,
 ) -> Result<Vec<u8>, Stop>
-    ensures answer { Answered kind (λ bytes. IsText (F.files folder.old) name.now bytes.items)
-        (IfSome (F.files folder.old) (λ told. HasLongText told name.now))
-        (F.read_faults folder.old) (F.read_faults folder.new) result }
+    ensures answer { Loads kind (F.files folder.old) name.now
+        (record { begun = F.begun folder.old; missed = F.missed folder.old; faults = F.read_faults folder.old })
+        (record { begun = F.begun folder.new; missed = F.missed folder.new; faults = F.read_faults folder.new }) result }
     ensures files { F.files folder.new ≡ F.files folder.old }
     ensures write_faults { F.write_faults folder.new ≡ F.write_faults folder.old }
 {
     match load(alloc, folder, name) {
         Ok(bytes) => Ok(bytes),
         Err(LoadError::ReadFault) => Err(Stop::Unread(kind)),
-        Err(LoadError::TooLong) => Err(Stop::Unbuilt(kind)),
+        Err(LoadError::TooLong) => Err(Stop::Refused(Refusal::TooLong(kind), Vec::new(alloc))),
         Err(LoadError::Memory) => Err(Stop::Memory),
     }
 }

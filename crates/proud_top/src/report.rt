@@ -1,13 +1,11 @@
-//! The report of a narrow design, and the lines of its faults.
+//! The report of a design.
 
 ghost use Rattle.std.specs.Prelude.{◌≡◌, ◌++◌, decimal, IfOk, OnOk};
-ghost use Rattle.narrow_form.specs.Views.{node_entries};
+ghost use Rattle.book_design.specs.Values.{node_values};
 ghost use Rattle.proud_top.specs.Report.{signed_text, report_line, report_lines, names_of};
-ghost use Rattle.proud_top.specs.Kinds.{ended, kind_text};
 
-use crate::kind::FileKind;
+use book_design::Node;
 use book_text::Memory;
-use narrow_form::Node;
 use std::alloc::Global;
 
 /// What a coordinate is shifted by, so that it isn't negative.
@@ -20,15 +18,15 @@ pub(crate) fn report_text(
     lo: &[u64],
     hi: &[u64],
 ) -> Result<Vec<u8>, Memory>
-    ensures { IfOk result (λ text. text.items ≡ report_lines (names_of (node_entries nodes.now)) lo.now hi.now) }
+    ensures { IfOk result (λ text. text.items ≡ report_lines (names_of (node_values nodes.now)) lo.now hi.now) }
 {
     let mut text = Vec::new(alloc);
     let mut lower = lo;
     let mut upper = hi;
     for node in nodes {
-        if !node.terminal {
+        if !node.fixed {
             if let ([low, lows @ ..], [high, highs @ ..]) = (lower, upper) {
-                push_line(alloc, &mut text, node.name, *low, *high)?;
+                push_line(alloc, &mut text, node.name.0, *low, *high)?;
                 lower = lows;
                 upper = highs;
             } else {
@@ -69,14 +67,4 @@ fn push_decimal(alloc: Global, text: &mut Vec<u8>, number: u64) -> Result<(), Me
 {
     let digits = format!(in alloc; "{number}")?;
     Ok(text.extend_from_slice(digits.as_bytes())?)
-}
-
-/// A fault line of a kind of file.
-pub(crate) fn fault_line(alloc: Global, cause: &[u8], kind: FileKind) -> Result<Vec<u8>, Memory>
-    ensures { IfOk result (λ line. line.items ≡ ended (cause.now ++ kind_text kind)) }
-{
-    let mut line = Vec::from_slice(alloc, cause)?;
-    line.extend_from_slice(kind.text().as_bytes())?;
-    line.push(b'\n')?;
-    Ok(line)
 }

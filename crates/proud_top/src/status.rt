@@ -1,7 +1,8 @@
 ghost use Rattle.std.specs.Prelude.{◌≡◌};
 ghost use Rattle.proud_top.specs.Codes.{code_of};
 
-use crate::kind::FileKind;
+use book_design::DesignFault;
+use book_files::{FileKind, TextFault};
 
 /// How a run ended.
 #[derive(Clone, Copy, Debug, PartialEq, Eq)]
@@ -20,10 +21,16 @@ pub enum Status {
     Memory,
 }
 
-/// Why a design was refused.
+/// Why a design was refused: the first cause in the order of the files, then of the files together, then of the nets.
 #[derive(Clone, Copy, Debug, PartialEq, Eq)]
 pub enum Refusal {
-    /// The file is too long, or isn't in the form that the placer reads so far.
+    /// The file has more than 268,435,456 bytes.
+    TooLong(FileKind),
+    /// The file's first fault.
+    Text(FileKind, TextFault),
+    /// The first fault of the files together.
+    Design(DesignFault),
+    /// The placer doesn't build such a design yet. It is given with the nets alone.
     NotBuilt(FileKind),
 }
 

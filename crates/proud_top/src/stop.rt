@@ -1,12 +1,13 @@
 ghost use Rattle.std.specs.Prelude.{◌≡◌};
 
-use crate::kind::FileKind;
+use crate::status::Refusal;
+use book_files::FileKind;
 
 /// Why there is no report.
-#[derive(Clone, Copy, Debug, PartialEq, Eq)]
+#[derive(Drop)]
 pub(crate) enum Stop {
-    /// The file isn't in the narrow form.
-    Unbuilt(FileKind),
+    /// The design was refused. The name is that of the node that the refusal names, and else empty.
+    Refused(Refusal, Vec<u8>),
     /// The file couldn't be read.
     Unread(FileKind),
     /// Want of memory.

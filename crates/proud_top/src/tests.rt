@@ -1,19 +1,20 @@
 ghost use Rattle.std.specs.Prelude.{IfOk};
 ghost use Rattle.book_outer.specs.Files.{AreNamesDistinct};
 
-use crate::{FileKind, Refusal, Status, proud};
+use crate::{DesignFault, FileKind, Refusal, Status, TextFault, TextKind, proud};
 use book_outer::{Calls, Files, MemFolder, MemSink, OpenGate, Words};
 use book_text::Memory;
 use std::alloc::Global;
 use std::process::Abort;
 use std::test::Fail;
 
-/// The texts of a design.
+/// The texts of a design. That of the weights is read only where the aux file names it.
 #[derive(Clone, Copy)]
 struct Texts {
     aux: &'static [u8],
     nodes: &'static [u8],
     nets: &'static [u8],
+    wts: &'static [u8],
     pl: &'static [u8],
     scl: &'static [u8],
 }
@@ -26,6 +27,7 @@ fn one_cell() -> Texts {
             a 2 10\nl 0 0 terminal\nr 0 0 terminal\n",
         nets: b"UCLA nets 1.0\nNumNets : 2\nNumPins : 4\n\
             NetDegree : 2 n0\nl B\na B\nNetDegree : 2 n1\na B\nr B\n",
+        wts: b"UCLA wts 1.0\n",
         pl: b"UCLA pl 1.0\na 0 0 : N\nl 0 5 : N /FIXED\nr 10 5 : N /FIXED\n",
         scl: b"UCLA scl 1.0\nNumRows : 1\nCoreRow Horizontal\n Coordinate : 0\n Height : 10\n \
             Sitewidth : 1\n Sitespacing : 1\n SubrowOrigin : 0 NumSites : 10\nEnd\n",
@@ -54,16 +56,58 @@ fn terminals() -> Texts {
     }
 }
 
-/// A pin with an offset, which isn't in the narrow form.
-fn with_offset() -> Texts {
+/// A design as such files usually are: offsets, pads beside the core, a macro over two rows, a net with a weight.
+fn usual() -> Texts {
     Texts {
-        nets: b"UCLA nets 1.0\nNumNets : 2\nNumPins : 4\n\
-            NetDegree : 2 n0\nl B : 0 0\na B\nNetDegree : 2 n1\na B\nr B\n",
+        aux: b"RowBasedPlacement : a.nodes a.nets a.wts a.pl a.scl\n",
+        nodes: b"UCLA nodes 1.0\n# a comment\n\nNumNodes : 5\nNumTerminals : 3\n\tu\t3\t12\n\tv\t5\t12\n\
+            \tm\t6\t24\tterminal\n\ti\t1\t1\tterminal\n\tq\t1\t1\tterminal\n",
+        nets: b"UCLA nets 1.0\n\nNumNets : 3\nNumPins : 7\nNetDegree : 2 n0\n\
+            \ti\tO : 0.500000\t0.000000\n\tu\tI : -1.500000\t0.000000\nNetDegree : 3 n1\n\
+            \tu\tO : 0.000000\t0.000000\n\tv\tI : 0.000000\t0.000000\n\
+            \tm\tI : -3.000000\t0.000000\nNetDegree : 2 n2\n\
+            \tv\tO : 0.000000\t0.000000\n\tq\tI : -0.500000\t0.000000\n",
+        wts: b"UCLA wts 1.0\nn2 2\n",
+        pl: b"UCLA pl 1.0\nu\t0\t0\t: N\nv\t0\t0\t: N\nm\t14\t0\t: N /FIXED\n\
+            i\t-1\t18\t: N /FIXED\nq\t20\t30\t: N /FIXED\n",
+        scl: b"UCLA scl 1.0\nNumRows : 3\nCoreRow Horizontal\n Coordinate : 0\n Height : 12\n \
+            Sitewidth : 1\n Sitespacing : 1\n Siteorient : 1\n Sitesymmetry : 1\n \
+            SubrowOrigin : 0\tNumSites : 20\nEnd\nCoreRow Horizontal\n Coordinate : 12\n \
+            Height : 12\n Sitewidth : 1\n Sitespacing : 1\n SubrowOrigin : 0\tNumSites : 20\nEnd\n\
+            CoreRow Horizontal\n Coordinate : 24\n Height : 12\n Sitewidth : 1\n Sitespacing : 1\n \
+            SubrowOrigin : 0\tNumSites : 20\nEnd\n",
+    }
+}
+
+/// One cell between two terminals, with another text of a kind.
+fn with_nodes(nodes: &'static [u8]) -> Texts {
+    Texts {
+        nodes,
         ..one_cell()
     }
 }
 
-/// The files in the folder itself, in a folder below, or without that of the places.
+fn with_nets(nets: &'static [u8]) -> Texts {
+    Texts { nets, ..one_cell() }
+}
+
+fn with_weights(wts: &'static [u8]) -> Texts {
+    Texts {
+        aux: b"RowBasedPlacement : a.nodes a.nets a.wts a.pl a.scl\n",
+        wts,
+        ..one_cell()
+    }
+}
+
+fn with_places(pl: &'static [u8]) -> Texts {
+    Texts { pl, ..one_cell() }
+}
+
+fn with_rows(scl: &'static [u8]) -> Texts {
+    Texts { scl, ..one_cell() }
+}
+
+/// The files in the folder itself, in a folder below, or without those of the weights and the places.
 fn files_of(alloc: Global, texts: Texts) -> Result<Files, Memory>
     ensures { IfOk result AreNamesDistinct }
 {
@@ -71,6 +115,7 @@ fn files_of(alloc: Global, texts: Texts) -> Result<Files, Memory>
     files.push("a.aux", texts.aux)?;
     files.push("a.nodes", texts.nodes)?;
     files.push("a.nets", texts.nets)?;
+    files.push("a.wts", texts.wts)?;
     files.push("a.pl", texts.pl)?;
     files.push("a.scl", texts.scl)?;
     Ok(files)
@@ -88,7 +133,7 @@ fn files_below(alloc: Global, texts: Texts) -> Result<Files, Memory>
     Ok(files)
 }
 
-fn files_without_places(alloc: Global, texts: Texts) -> Result<Files, Memory>
+fn files_without(alloc: Global, texts: Texts) -> Result<Files, Memory>
     ensures { IfOk result AreNamesDistinct }
 {
     let mut files = Files::new(alloc);
@@ -154,6 +199,7 @@ fn assert_case(rt: &impl Abort, alloc: Global, case: Case) -> Result<(), Memory>
     assert!(rt; folder.file("a.aux") == Some(case.texts.aux));
     assert!(rt; folder.file("a.nodes") == Some(case.texts.nodes));
     assert!(rt; folder.file("a.nets") == Some(case.texts.nets));
+    assert!(rt; folder.file("a.wts") == Some(case.texts.wts));
     assert!(rt; folder.file("a.pl") == Some(case.texts.pl));
     assert!(rt; folder.file("a.scl") == Some(case.texts.scl));
     Ok(())
@@ -161,6 +207,10 @@ fn assert_case(rt: &impl Abort, alloc: Global, case: Case) -> Result<(), Memory>
 
 #[test]
 fn designs_are_placed(rt: HostRuntime) -> Result<(), Fail> {
+    // The terminal l stands beside the core: it is clamped to the core's left end.
+    let beside = b"UCLA pl 1.0\na 0 0 : N\nl -50 5 : N /FIXED\nr 10 5 : N /FIXED\n";
+    let no_offset = b"UCLA nets 1.0\nNumNets : 2\nNumPins : 4\n\
+        NetDegree : 2 n0\nl B : 0 0\na B\nNetDegree : 2 n1\na B\nr B\n";
     let cases = [
         case_of(one_cell(), Status::Done, b"a 5000000 5000000\n"),
         case_of(
@@ -169,6 +219,14 @@ fn designs_are_placed(rt: HostRuntime) -> Result<(), Fail> {
             b"a 3333333 3333334\nb 6666666 6666667\n",
         ),
         case_of(terminals(), Status::Done, b""),
+        case_of(with_places(beside), Status::Done, b"a 5000000 5000000\n"),
+        case_of(with_nets(no_offset), Status::Done, b"a 5000000 5000000\n"),
+        // A name of weights that no net has is without effect.
+        case_of(
+            with_weights(b"UCLA wts 1.0\nn7 3\n"),
+            Status::Done,
+            b"a 5000000 5000000\n",
+        ),
     ];
     for case in cases {
         assert_case(&rt, rt.alloc(), case)?;
@@ -177,35 +235,256 @@ fn designs_are_placed(rt: HostRuntime) -> Result<(), Fail> {
     Ok(())
 }
 
+/// A design whose file of the kind has this first fault, and the line that tells it.
+#[derive(Clone, Copy)]
+struct Faulty {
+    texts: Texts,
+    kind: FileKind,
+    line: u64,
+    fault: TextKind,
+    report: &'static [u8],
+}
+
+fn with_fault(
+    texts: Texts,
+    kind: FileKind,
+    line: u64,
+    fault: TextKind,
+    report: &'static [u8],
+) -> Faulty {
+    Faulty {
+        texts,
+        kind,
+        line,
+        fault,
+        report,
+    }
+}
+
+#[test]
+fn faults_of_texts_are_told(rt: HostRuntime) -> Result<(), Fail> {
+    let no_header = Texts {
+        aux: b"a.nodes a.nets a.pl a.scl\n",
+        ..one_cell()
+    };
+    let cut = b"UCLA nets 1.0\nNumNets : 2\nNumPins : 4\n\
+        NetDegree : 2 n0\nl B\na B\nNetDegree : 2 n1\na B\n";
+    let five_pins = b"UCLA nets 1.0\nNumNets : 2\nNumPins : 5\n\
+        NetDegree : 2 n0\nl B\na B\nNetDegree : 2 n1\na B\nr B\n";
+    let no_count = b"UCLA scl 1.0\nCoreRow Horizontal\n Coordinate : 0\n Height : 10\n \
+        Sitewidth : 1\n Sitespacing : 1\n SubrowOrigin : 0 NumSites : 10\nEnd\n";
+    let short = b"UCLA nodes 1.0\nNumNodes : 1\na 2\n";
+    let negative = b"UCLA nodes 1.0\nNumNodes : 1\na 2 -1\n";
+    let cases = [
+        with_fault(
+            no_header,
+            FileKind::Aux,
+            1,
+            TextKind::BadHeader,
+            b"proud: aux:1: bad header\n",
+        ),
+        with_fault(
+            with_nodes(short),
+            FileKind::Nodes,
+            3,
+            TextKind::BadLine,
+            b"proud: nodes:3: bad line\n",
+        ),
+        with_fault(
+            with_nodes(negative),
+            FileKind::Nodes,
+            3,
+            TextKind::BadNumber,
+            b"proud: nodes:3: bad number\n",
+        ),
+        with_fault(
+            with_nets(cut),
+            FileKind::Nets,
+            9,
+            TextKind::CountMismatch { told: 2, found: 1 },
+            b"proud: nets:9: count 2 but 1\n",
+        ),
+        with_fault(
+            with_nets(five_pins),
+            FileKind::Nets,
+            10,
+            TextKind::CountMismatch { told: 5, found: 4 },
+            b"proud: nets:10: count 5 but 4\n",
+        ),
+        with_fault(
+            with_weights(b"UCLA wts 1.0\nn0\n"),
+            FileKind::Wts,
+            2,
+            TextKind::BadLine,
+            b"proud: wts:2: bad line\n",
+        ),
+        with_fault(
+            with_places(b"UCLA pl 1.0\na x 0 : N\n"),
+            FileKind::Pl,
+            2,
+            TextKind::BadNumber,
+            b"proud: pl:2: bad number\n",
+        ),
+        with_fault(
+            with_rows(no_count),
+            FileKind::Scl,
+            9,
+            TextKind::BadLine,
+            b"proud: scl:9: bad line\n",
+        ),
+    ];
+    for case in cases {
+        let fault = TextFault {
+            line: case.line,
+            kind: case.fault,
+        };
+        let refusal = Refusal::Text(case.kind, fault);
+        let told = case_of(case.texts, Status::Refused(refusal), case.report);
+        assert_case(&rt, rt.alloc(), told)?;
+    }
+    Ok(())
+}
+
+#[test]
+fn faults_of_designs_are_told(rt: HostRuntime) -> Result<(), Fail> {
+    let twice = b"UCLA nodes 1.0\nNumNodes : 4\nNumTerminals : 2\n\
+        a 2 10\na 2 10\nl 0 0 terminal\nr 0 0 terminal\n";
+    let tall = b"UCLA nodes 1.0\nNumNodes : 3\nNumTerminals : 2\n\
+        a 2 11\nl 0 0 terminal\nr 0 0 terminal\n";
+    let no_node = b"UCLA nets 1.0\nNumNets : 2\nNumPins : 4\n\
+        NetDegree : 2 n0\nz B\na B\nNetDegree : 2 n1\na B\nr B\n";
+    let no_place = b"UCLA pl 1.0\na 0 0 : N\nr 10 5 : N /FIXED\n";
+    let stray = b"UCLA pl 1.0\na 0 0 : N\nl 0 5 : N /FIXED\nr 10 5 : N /FIXED\nz 0 0 : N\n";
+    let empty = b"UCLA scl 1.0\nNumRows : 1\nCoreRow Horizontal\n Coordinate : 0\n Height : 10\n \
+        Sitewidth : 1\n Sitespacing : 1\n SubrowOrigin : 0 NumSites : 0\nEnd\n";
+    let mixed = b"UCLA scl 1.0\nNumRows : 2\nCoreRow Horizontal\n Coordinate : 0\n Height : 10\n \
+        Sitewidth : 1\n SubrowOrigin : 0 NumSites : 10\nEnd\nCoreRow Horizontal\n Coordinate : 10\n \
+        Height : 12\n Sitewidth : 1\n SubrowOrigin : 0 NumSites : 10\nEnd\n";
+    let overlapping =
+        b"UCLA scl 1.0\nNumRows : 2\nCoreRow Horizontal\n Coordinate : 0\n Height : 10\n \
+        Sitewidth : 1\n SubrowOrigin : 0 NumSites : 10\nEnd\nCoreRow Horizontal\n Coordinate : 5\n \
+        Height : 10\n Sitewidth : 1\n SubrowOrigin : 0 NumSites : 10\nEnd\n";
+    let far = b"UCLA scl 1.0\nNumRows : 1\nCoreRow Horizontal\n Coordinate : 0\n Height : 10\n \
+        Sitewidth : 1\n SubrowOrigin : 999995 NumSites : 10\nEnd\n";
+    let unknown = DesignFault::UnknownName {
+        file: FileKind::Nets,
+        line: 5,
+    };
+    let unknown_place = DesignFault::UnknownName {
+        file: FileKind::Pl,
+        line: 5,
+    };
+    let weight = DesignFault::Limit { kind: 5, number: 0 };
+    let cases: [(Texts, DesignFault, &'static [u8]); 11] = [
+        (
+            with_nodes(twice),
+            DesignFault::DuplicateName { line: 5 },
+            b"proud: nodes:5: name given twice\n",
+        ),
+        (
+            with_nets(no_node),
+            unknown,
+            b"proud: nets:5: unknown name\n",
+        ),
+        (
+            with_places(stray),
+            unknown_place,
+            b"proud: pl:5: unknown name\n",
+        ),
+        (
+            with_places(no_place),
+            DesignFault::NoPosition { node: 1 },
+            b"proud: node l: no position\n",
+        ),
+        (with_rows(empty), DesignFault::NoRows, b"proud: no rows\n"),
+        (
+            with_rows(mixed),
+            DesignFault::MixedRows { row: 1 },
+            b"proud: row 1: mixed rows\n",
+        ),
+        (
+            with_rows(overlapping),
+            DesignFault::RowsOverlap { row: 1 },
+            b"proud: row 1: overlaps\n",
+        ),
+        (
+            with_nodes(tall),
+            DesignFault::TallCell { node: 0 },
+            b"proud: node a: taller than a row\n",
+        ),
+        (
+            with_weights(b"UCLA wts 1.0\nn0 65536\n"),
+            weight,
+            b"proud: limit 5 0\n",
+        ),
+        (
+            with_weights(b"UCLA wts 1.0\nn0 0.5\n"),
+            weight,
+            b"proud: limit 5 0\n",
+        ),
+        (
+            with_rows(far),
+            DesignFault::Limit { kind: 6, number: 0 },
+            b"proud: limit 6 0\n",
+        ),
+    ];
+    for (texts, fault, report) in cases {
+        let status = Status::Refused(Refusal::Design(fault));
+        assert_case(&rt, rt.alloc(), case_of(texts, status, report))?;
+        assert_eq!(rt; status.code(), 2);
+    }
+    Ok(())
+}
+
+#[test]
+fn designs_that_are_not_built_are_told(rt: HostRuntime) -> Result<(), Fail> {
+    let offset = b"UCLA nets 1.0\nNumNets : 2\nNumPins : 4\n\
+        NetDegree : 2 n0\nl B : 1 0\na B\nNetDegree : 2 n1\na B\nr B\n";
+    let alone = Texts {
+        nodes: b"UCLA nodes 1.0\nNumNodes : 4\nNumTerminals : 2\n\
+            a 2 10\nc 2 10\nl 0 0 terminal\nr 0 0 terminal\n",
+        ..one_cell()
+    };
+    let weights = with_weights(b"UCLA wts 1.0\nn0 65535\n");
+    let refused = Status::Refused(Refusal::NotBuilt(FileKind::Nets));
+    for texts in [usual(), with_nets(offset), alone, weights] {
+        let case = case_of(texts, refused, b"proud: not built: nets\n");
+        assert_case(&rt, rt.alloc(), case)?;
+    }
+    Ok(())
+}
+
 #[test]
 fn others_are_told(rt: HostRuntime) -> Result<(), Fail> {
     let usage = case_of(one_cell(), Status::Usage, b"usage: proud DESIGN\n");
+    let tall = b"UCLA nodes 1.0\nNumNodes : 3\na 2 11\nl 0 0 terminal\nr 0 0 terminal\n";
     let refused = case_of(
-        with_offset(),
-        Status::Refused(Refusal::NotBuilt(FileKind::Nets)),
-        b"proud: not built: nets\n",
+        with_nodes(tall),
+        Status::Refused(Refusal::Design(DesignFault::TallCell { node: 0 })),
+        b"proud: node a: taller than a row\n",
     );
     let unread = case_of(
         one_cell(),
         Status::ReadFault(FileKind::Nodes),
         b"proud: cannot read nodes\n",
     );
+    let late = case_of(
+        one_cell(),
+        Status::ReadFault(FileKind::Pl),
+        b"proud: cannot read pl\n",
+    );
     let written = case_of(one_cell(), Status::WriteFault, b"");
+    let no_words = Case {
+        words: &["proud"],
+        ..usage
+    };
+    let three_words = Case {
+        words: &["proud", "a.aux", "a.aux"],
+        ..usage
+    };
     let cases = [
-        (
-            1,
-            Case {
-                words: &["proud"],
-                ..usage
-            },
-        ),
-        (
-            1,
-            Case {
-                words: &["proud", "a.aux", "a.aux"],
-                ..usage
-            },
-        ),
+        (1, no_words),
+        (1, three_words),
         (
             1,
             Case {
@@ -217,18 +496,16 @@ fn others_are_told(rt: HostRuntime) -> Result<(), Fail> {
         (
             1,
             Case {
-                words: &["proud"],
                 call: 1,
-                ..usage
+                ..no_words
             },
         ),
         (
             1,
             Case {
-                words: &["proud"],
                 put: 1,
                 report: b"",
-                ..usage
+                ..no_words
             },
         ),
         (2, refused),
@@ -240,7 +517,7 @@ fn others_are_told(rt: HostRuntime) -> Result<(), Fail> {
                 ..refused
             },
         ),
-        // The folder's calls: begin, read and read of a.aux; begin and read of a.nodes.
+        // The folder's calls: begin, read and read of each file.
         (3, Case { call: 4, ..unread }),
         (3, Case { call: 5, ..unread }),
         (
@@ -252,6 +529,7 @@ fn others_are_told(rt: HostRuntime) -> Result<(), Fail> {
                 ..unread
             },
         ),
+        (3, Case { call: 12, ..late }),
         (4, Case { put: 1, ..written }),
     ];
     for (code, case) in cases {
@@ -270,13 +548,24 @@ fn files_stand_beside_the_aux_file(rt: HostRuntime) -> Result<(), Fail> {
     let status = proud(alloc, &words, &mut folder, &mut report, &OpenGate);
     assert_eq!(rt; status, Status::Done);
     assert!(rt; report.written() == b"a 5000000 5000000\n".as_slice());
+    Ok(())
+}
 
-    let mut folder = MemFolder::new(files_without_places(alloc, one_cell())?, Calls::new(alloc));
-    let mut report = MemSink::new(alloc, Calls::new(alloc));
-    let words = words_of(alloc, A)?;
-    let status = proud(alloc, &words, &mut folder, &mut report, &OpenGate);
-    assert_eq!(rt; status, Status::ReadFault(FileKind::Pl));
-    assert!(rt; report.written() == b"proud: cannot read pl\n".as_slice());
+#[test]
+fn absent_files_are_told(rt: HostRuntime) -> Result<(), Fail> {
+    let alloc = rt.alloc();
+    let cases: [(Texts, FileKind, &'static [u8]); 2] = [
+        (one_cell(), FileKind::Pl, b"proud: cannot read pl\n"),
+        (usual(), FileKind::Wts, b"proud: cannot read wts\n"),
+    ];
+    for (texts, kind, line) in cases {
+        let mut folder = MemFolder::new(files_without(alloc, texts)?, Calls::new(alloc));
+        let mut report = MemSink::new(alloc, Calls::new(alloc));
+        let words = words_of(alloc, A)?;
+        let status = proud(alloc, &words, &mut folder, &mut report, &OpenGate);
+        assert_eq!(rt; status, Status::ReadFault(kind));
+        assert!(rt; report.written() == line);
+    }
     assert_eq!(rt; Status::Memory.code(), 5);
     Ok(())
 }

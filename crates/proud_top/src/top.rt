@@ -2,20 +2,28 @@ ghost use Rattle.std.specs.Prelude.{◌≡◌, ◌⊎◌, ℕ, List, take, Some,
 ghost use Rattle.std.specs.Io.KnownBytes.{Appends};
 ghost use Rattle.book_outer.specs.Cause.{Rose};
 ghost use Rattle.book_outer.specs.Files.{FileEntry};
-ghost use Rattle.proud_top.specs.declared.kind.FileKind.{FileKind};
-ghost use Rattle.proud_top.specs.NarrowSystem.{NarrowDesign};
-ghost use Rattle.proud_top.specs.Kinds.{usage_line, cannot_read_line, not_built_line};
-ghost use Rattle.proud_top.specs.Design.{requested, IsNarrow, IsUnbuilt};
+ghost use Rattle.book_files.specs.declared.records.FileKind.{FileKind};
+ghost use Rattle.book_files.specs.Entries.{AuxEntry};
+ghost use Rattle.book_design.specs.Files.{Files};
+ghost use Rattle.book_design.specs.Values.{DesignValue};
+ghost use Rattle.book_design.specs.Answers.{IsJoined};
+ghost use Rattle.narrow_system.specs.NarrowSystem.{IsUnbuilt};
+ghost use Rattle.proud_top.specs.declared.status.Refusal.{Refusal};
+ghost use Rattle.proud_top.specs.Lines.{usage_line, cannot_read_line, refusal_line};
+ghost use Rattle.proud_top.specs.Request.{requested};
+ghost use Rattle.proud_top.specs.Accepted.{Accepts};
+ghost use Rattle.proud_top.specs.Refused.{IsRefused};
+ghost use Rattle.proud_top.specs.Counts.{Counts, IsFaultPlace};
 ghost use Rattle.proud_top.specs.Outcome.{Outcome, Tells, PutsReport};
-ghost use Rattle.proud_top.specs.Answers.{GotReport, GotReportFront, GotLine, GotDueFront, IsRefused, HasReached};
+ghost use Rattle.proud_top.specs.Answers.{GotReport, GotReportFront, GotLine, GotRefusal, GotDueFront};
 
-use crate::kind::FileKind;
+use crate::laws::laws;
+use crate::lines::{fault_line, refusal_line};
 use crate::reading::placed;
-use crate::report::fault_line;
 use crate::status::{Refusal, Status};
 use crate::stop::Stop;
+use book_files::FileKind;
 use book_outer::{Folder, Gate, Sink, Trouble, Words};
-use narrow_form::one_reading;
 use std::alloc::Global;
 
 /// Places the design that the words name, and reports for each cell its lower and its upper x coordinate.
@@ -29,7 +37,8 @@ pub fn proud<F: Folder, S: Sink, G: Gate>(
     report: &mut S,
     _gate: &G,
 ) -> Status
-    // Done: the files are in the narrow form, and the report got exactly a line per point with its two coordinates.
+    // Done: the files are accepted and make a design that is built, and the report got exactly a line per point with its
+    // two coordinates.
     ensures done { result ≡ Status.Done → IfSome (F.files folder.old) (λ files.
         GotReport files words.now (S.written report.old) (S.written report.new)) }
     ensures calm_reads { result ≡ Status.Done → F.read_faults folder.new ≡ F.read_faults folder.old }
@@ -51,19 +60,22 @@ pub fn proud<F: Folder, S: Sink, G: Gate>(
     ensures read_fault_told { (kind : FileKind) → result ≡ Status.ReadFault kind
         → GotLine (S.faults report.old) (S.faults report.new) (S.written report.old) (S.written report.new) (cannot_read_line kind) }
 
+    // Where the files are told, each before that file is accepted, `begun` grew by its place, and no absent file was begun
+    // where it is there.
     ensures read_fault_place { (kind : FileKind) → result ≡ Status.ReadFault kind
-        → IfSome (F.files folder.old) (λ files. HasReached files words.now kind) }
+        → IfSome (F.files folder.old) (λ files. IsFaultPlace files words.now kind
+        (record { begun = F.begun folder.old; missed = F.missed folder.old; faults = F.read_faults folder.old })
+        (record { begun = F.begun folder.new; missed = F.missed folder.new; faults = F.read_faults folder.new })) }
 
-    // NotBuilt comes exactly where the file of the kind is the first that isn't in the narrow form.
-    ensures refused { (kind : FileKind) → result ≡ Status.Refused (Refusal.NotBuilt kind)
-        → IfSome (F.files folder.old) (λ files. IsRefused files words.now kind) }
-    ensures only_refused { (files : List FileEntry) (kind : FileKind) → F.files folder.old ≡ Some files
-        → IsRefused files words.now kind → (Rose (F.read_faults folder.old) (F.read_faults folder.new) → ⊥)
-        → (result ≡ Status.Refused (Refusal.NotBuilt kind)) ⊎ (result ≡ Status.Memory) }
-    ensures refused_told { (kind : FileKind) → result ≡ Status.Refused (Refusal.NotBuilt kind)
-        → GotLine (S.faults report.old) (S.faults report.new) (S.written report.old) (S.written report.new) (not_built_line kind) }
-
-    ensures calm_refusal { (kind : FileKind) → result ≡ Status.Refused (Refusal.NotBuilt kind)
+    // Refused comes exactly by the first cause, in the order of the files, of the files together, and of the nets.
+    ensures refused { (refusal : Refusal) → result ≡ Status.Refused refusal
+        → IfSome (F.files folder.old) (λ files. IsRefused files words.now refusal) }
+    ensures only_refused { (files : List FileEntry) (refusal : Refusal) → F.files folder.old ≡ Some files
+        → IsRefused files words.now refusal → (Rose (F.read_faults folder.old) (F.read_faults folder.new) → ⊥)
+        → (result ≡ Status.Refused refusal) ⊎ (result ≡ Status.Memory) }
+    ensures refused_told { (refusal : Refusal) → result ≡ Status.Refused refusal
+        → GotRefusal (F.files folder.old) words.now refusal (S.faults report.old) (S.faults report.new) (S.written report.old) (S.written report.new) }
+    ensures calm_refusal { (refusal : Refusal) → result ≡ Status.Refused refusal
         → F.read_faults folder.new ≡ F.read_faults folder.old }
 
     // WriteFault comes only where the report's count of faults rose. The report got a front of its text.
@@ -73,24 +85,24 @@ pub fn proud<F: Folder, S: Sink, G: Gate>(
         GotReportFront files words.now (S.written report.old) (S.written report.new)) }
 
     // After want of memory the report got nothing, or a front of what was to be put.
-    ensures memory_told { result ≡ Status.Memory → IfSome (F.files folder.old) (λ files.
-        GotDueFront files words.now (F.read_faults folder.old) (F.read_faults folder.new) (S.written report.old) (S.written report.new)) }
+    ensures memory_told { result ≡ Status.Memory → IfSome (F.files folder.old) (λ files. GotDueFront files words.now
+        (record { begun = F.begun folder.old; missed = F.missed folder.old; faults = F.read_faults folder.old })
+        (record { begun = F.begun folder.new; missed = F.missed folder.new; faults = F.read_faults folder.new })
+        (S.written report.old) (S.written report.new)) }
 
-    // Files in the narrow form are placed, unless a fault or want of memory comes.
-    ensures complete { (files : List FileEntry) (word : List ℕ) (design : NarrowDesign) → F.files folder.old ≡ Some files
-        → requested words.now ≡ Some word → IsNarrow files word design
+    // Accepted files that make a design that is built are placed, unless a fault or want of memory comes.
+    ensures complete { (files : List FileEntry) (word : List ℕ) (names : AuxEntry) (inputs : Files) (design : DesignValue)
+        → F.files folder.old ≡ Some files → requested words.now ≡ Some word
+        → Accepts files word names inputs → IsJoined inputs design → (IsUnbuilt design → ⊥)
         → (Rose (F.read_faults folder.old) (F.read_faults folder.new) → ⊥)
         → (Rose (S.faults report.old) (S.faults report.new) → ⊥)
         → (result ≡ Status.Done) ⊎ (result ≡ Status.Memory) }
-
-    // A design has no weights in this form.
-    ensures no_weights { (result ≡ Status.ReadFault FileKind.Wts → ⊥) × (result ≡ Status.Refused (Refusal.NotBuilt FileKind.Wts) → ⊥) }
 
     // The folder's files stay as they were, and nothing is written there.
     ensures files { F.files folder.new ≡ F.files folder.old }
     ensures writes { F.write_faults folder.new ≡ F.write_faults folder.old }
 {
-    one_reading();
+    laws();
     run(alloc, words, folder, report)
 }
 
@@ -100,7 +112,8 @@ const USAGE_LINE: &[u8] = b"usage: proud DESIGN\n";
 /// The run, whose outcome is told as a whole.
 fn run<F: Folder, S: Sink>(alloc: Global, words: &Words, folder: &mut F, report: &mut S) -> Status
     ensures outcome { Outcome (F.files folder.old) words.now
-        (record { before = F.read_faults folder.old; now = F.read_faults folder.new })
+        (record { begun = F.begun folder.old; missed = F.missed folder.old; faults = F.read_faults folder.old })
+        (record { begun = F.begun folder.new; missed = F.missed folder.new; faults = F.read_faults folder.new })
         (record { before = S.faults report.old; now = S.faults report.new })
         (S.written report.old) (S.written report.new) result }
     ensures begun { requested words.now ≡ None → F.begun folder.new ≡ F.begun folder.old }
@@ -113,7 +126,7 @@ fn run<F: Folder, S: Sink>(alloc: Global, words: &Words, folder: &mut F, report:
     };
     match placed(alloc, folder, word) {
         Ok(text) => put_report(report, &text),
-        Err(Stop::Unbuilt(kind)) => tell_refusal(alloc, report, kind),
+        Err(Stop::Refused(refusal, name)) => tell_refusal(alloc, report, refusal, &name),
         Err(Stop::Unread(kind)) => tell_fault(alloc, report, kind),
         Err(Stop::Memory) => Status::Memory,
     }
@@ -141,14 +154,14 @@ fn tell<S: Sink>(report: &mut S, status: Status, line: &[u8]) -> Status
     }
 }
 
-/// Tells that a file isn't in the narrow form.
-fn tell_refusal<S: Sink>(alloc: Global, report: &mut S, kind: FileKind) -> Status
-    ensures { Tells (Status.Refused (Refusal.NotBuilt kind)) (not_built_line kind)
+/// Tells why the design was refused.
+fn tell_refusal<S: Sink>(alloc: Global, report: &mut S, refusal: Refusal, name: &[u8]) -> Status
+    ensures { Tells (Status.Refused refusal) (refusal_line refusal name.now)
         (record { before = S.faults report.old; now = S.faults report.new })
         (S.written report.old) (S.written report.new) result }
 {
-    match fault_line(alloc, b"proud: not built: ", kind) {
-        Ok(line) => tell(report, Status::Refused(Refusal::NotBuilt(kind)), &line),
+    match refusal_line(alloc, refusal, name) {
+        Ok(line) => tell(report, Status::Refused(refusal), &line),
         Err(_) => Status::Memory,
     }
 }
@@ -159,7 +172,7 @@ fn tell_fault<S: Sink>(alloc: Global, report: &mut S, kind: FileKind) -> Status
         (record { before = S.faults report.old; now = S.faults report.new })
         (S.written report.old) (S.written report.new) result }
 {
-    match fault_line(alloc, b"proud: cannot read ", kind) {
+    match fault_line(alloc, kind) {
         Ok(line) => tell(report, Status::ReadFault(kind), &line),
         Err(_) => Status::Memory,
     }

@@ -1,106 +1,265 @@
-use Rattle.std.proofs.Common.{◌≡◌, ℕ, List, Option, IfSome, refl, ◌∙◌}
+use Rattle.std.proofs.Common.{◌≡◌, ◌+◌, suc, List, [], None, refl, ◌∙◌, subst, arith}
+use Rattle.std.specs.Prelude.{option_map}
 use Rattle.std.proofs.lemmas.Result.{err_from_is_err_and}
-use Rattle.book_outer.specs.Files.{FileEntry}
-use Rattle.narrow_form.specs.Narrow.{IsAuxText, IsNodesText, IsNetsText, IsPlText, IsSclText}
-use Rattle.narrow_form.specs.Views.{aux_entry, node_entries, net_entries, place_entries, row_entry}
-use Rattle.proud_top.specs.declared.kind.FileKind.TheVariants.{Nodes, Nets, Pl, Scl}
-use Rattle.proud_top.specs.Design.{beside, HasOtherText}
-use Rattle.proud_top.specs.Steps.{WasRead}
-use Rattle.proud_top.specs.WellFormed.{design_of}
-use Rattle.proud_top.proofs.Readings.{WasRead-given, WasRead-kept, Answered-none}
-use Rattle.proud_top.proofs.Chain.{HasNodes, HasNets, HasPlaces, Places-stop, nodes-reached, nodes-unbuilt, nets-reached, nets-unbuilt, pl-reached, pl-unbuilt, scl-reached, scl-unbuilt, IsReportOf-read}
-use Rattle.proud_top.proofs.Formed.{well_formed}
+use Rattle.book_files.specs.declared.records.FileKind.TheVariants.{Aux, Nodes, Nets, Wts, Pl, Scl}
+use Rattle.book_files.specs.Entries.{AuxEntry, NodeEntry, NetEntry, PlaceEntry, RowEntry, aux_entry}
+use Rattle.book_files.specs.AuxRules.{aux_grammar}
+use Rattle.book_files.specs.NodeRules.{nodes_grammar}
+use Rattle.book_files.specs.NetRules.{nets_grammar}
+use Rattle.book_files.specs.PlaceRules.{places_grammar}
+use Rattle.book_files.specs.RowRules.{rows_grammar}
+use Rattle.book_design.specs.Files.{Files}
+use Rattle.proud_top.specs.Request.{beside}
+use Rattle.proud_top.specs.Order.{weight_files}
+use Rattle.proud_top.specs.Counts.{Counts}
+use Rattle.proud_top.specs.Steps.{Solves}
+use Rattle.proud_top.proofs.Once.{same_files}
+use Rattle.proud_top.proofs.Chain.{front_first, front_next, front_weights, front_last, stop_load, stop_load_weights, stop_read, stop_read_weights, ends}
 use Rattle.proud_top.proofs.reading.placed.Goals as goal
+
+pub returns-in_err-text-clause-places : goal.returns-in_err-text-clause-places
+returns-in_err-text-clause-places g c =
+    let files = g.F.Folder.files c.args.folder.now in
+    let word = c.args.word.now in
+    let start : Counts = record { begun = g.F.Folder.begun c.args.folder.now; missed = g.F.Folder.missed c.args.folder.now; faults = g.F.Folder.read_faults c.args.folder.now } in
+    let names : AuxEntry = record { nodes = []; nets = []; wts = None; pl = []; scl = [] } in
+    let inputs : Files = record { nodes = []; nets = []; weights = None; places = []; rows = [] } in
+    let f0 = front_first files word names inputs start in
+    let stop = c.in_err-text.field-0.0 in
+    let p = err_from_is_err_and c.from_residual.result c.from_residual.ensures.1 in
+    let q : p.0 ≡ stop = p.2 in
+    rw (p.1, q) (stop_load Aux files files word word names inputs start _ _ stop refl refl f0 c.in_err-text.ensures.answer)
+
+pub returns-in_err-names-clause-places : goal.returns-in_err-names-clause-places
+returns-in_err-names-clause-places g c =
+    let files = g.F.Folder.files c.args.folder.now in
+    let word = c.args.word.now in
+    let start : Counts = record { begun = g.F.Folder.begun c.args.folder.now; missed = g.F.Folder.missed c.args.folder.now; faults = g.F.Folder.read_faults c.args.folder.now } in
+    let names : AuxEntry = record { nodes = []; nets = []; wts = None; pl = []; scl = [] } in
+    let inputs : Files = record { nodes = []; nets = []; weights = None; places = []; rows = [] } in
+    let f0 = front_first files word names inputs start in
+    let stop = c.in_err-names.field-0.0 in
+    let p = err_from_is_err_and c.from_residual-in_err-names.result c.from_residual-in_err-names.ensures.1 in
+    let q : p.0 ≡ stop = p.2 in
+    rw (p.1, q) (stop_read Aux aux_grammar aux_entry files files word word c.deref.result.now c.in_ok-text.text c.read_aux.result names inputs start _ _ stop (λ fault h. h)
+    refl refl f0 c.in_ok-text.ensures.answer c.deref.ensures.value c.read_aux.ensures c.in_err-names.ensures)
+
+pub returns-in_err-node_text-clause-places : goal.returns-in_err-node_text-clause-places
+returns-in_err-node_text-clause-places g c =
+    let files = g.F.Folder.files c.args.folder.now in
+    let word = c.args.word.now in
+    let start : Counts = record { begun = g.F.Folder.begun c.args.folder.now; missed = g.F.Folder.missed c.args.folder.now; faults = g.F.Folder.read_faults c.args.folder.now } in
+    let names = aux_entry c.in_ok-names.names in
+    let inputs : Files = record { nodes = []; nets = []; weights = None; places = []; rows = [] } in
+    let f0 = front_first files word names inputs start in
+    let f1 = front_next Aux Nodes aux_grammar aux_entry files files word word c.deref.result.now c.in_ok-text.text c.read_aux.result c.in_ok-names.names names inputs start _ _ refl refl (λ told h. h)
+    refl f0 c.in_ok-text.ensures.answer c.deref.ensures.value c.read_aux.ensures c.in_ok-names.ensures in
+    let stop = c.in_err-node_text.field-0.0 in
+    let p = err_from_is_err_and c.from_residual-in_err-node_text.result c.from_residual-in_err-node_text.ensures.1 in
+    let q : p.0 ≡ stop = p.2 in
+    rw (p.1, q) (stop_load Nodes files (g.F.Folder.files c.load_as.new.folder) word (beside word names.nodes) names inputs start _ _ stop c.load_as.ensures.files refl f1 c.in_err-node_text.ensures.answer)
 
 pub returns-in_err-nodes-clause-places : goal.returns-in_err-nodes-clause-places
 returns-in_err-nodes-clause-places g c =
     let files = g.F.Folder.files c.args.folder.now in
     let word = c.args.word.now in
+    let start : Counts = record { begun = g.F.Folder.begun c.args.folder.now; missed = g.F.Folder.missed c.args.folder.now; faults = g.F.Folder.read_faults c.args.folder.now } in
     let names = aux_entry c.in_ok-names.names in
+    let inputs : Files = record { nodes = []; nets = []; weights = None; places = []; rows = [] } in
+    let f0 = front_first files word names inputs start in
+    let f1 = front_next Aux Nodes aux_grammar aux_entry files files word word c.deref.result.now c.in_ok-text.text c.read_aux.result c.in_ok-names.names names inputs start _ _ refl refl (λ told h. h)
+    refl f0 c.in_ok-text.ensures.answer c.deref.ensures.value c.read_aux.ensures c.in_ok-names.ensures in
     let stop = c.in_err-nodes.field-0.0 in
-    let of_aux = WasRead-given files files word c.deref.result.now IsAuxText aux_entry c.in_ok-read_aux.field-0 c.in_ok-names.names _ refl (rw c.deref.ensures.value c.in_ok-text.ensures.answer.0) c.in_ok-read_aux.ensures c.in_ok-names.ensures.value in
-    let IsOther : Option (List FileEntry) → Type 0 = λ files. IfSome files (λ told. HasOtherText told (beside word names.nodes) IsNodesText) in
-    let answer = Answered-none Nodes _ _ c.deref-2.result.now IsNodesText (λ nodes. node_entries nodes.items) _ _ c.in_ok-read_nodes.field-0 stop (rw c.deref-2.ensures.value c.in_ok-node_text.ensures.answer.0) c.in_ok-node_text.ensures.answer.1 c.in_ok-read_nodes.ensures c.in_err-nodes.ensures.value in
     let p = err_from_is_err_and c.from_residual-in_err-nodes.result c.from_residual-in_err-nodes.ensures.1 in
     let q : p.0 ≡ stop = p.2 in
-    rw (p.1, q) (Places-stop files _ word _ _ _ Nodes IsOther stop c.load_as.ensures.files c.in_ok-text.ensures.answer.1 (nodes-reached files word names of_aux) (nodes-unbuilt files word names of_aux) answer)
+    rw (p.1, q) (stop_read Nodes nodes_grammar (λ (file : List NodeEntry). file) files (g.F.Folder.files c.load_as.new.folder) word (beside word names.nodes) c.deref-2.result.now c.in_ok-node_text.node_text c.read_nodes.result names inputs start _ _ stop (λ fault h. h)
+    c.load_as.ensures.files refl f1 c.in_ok-node_text.ensures.answer c.deref-2.ensures.value c.read_nodes.ensures.reading c.in_err-nodes.ensures)
+
+pub returns-in_err-net_text-clause-places : goal.returns-in_err-net_text-clause-places
+returns-in_err-net_text-clause-places g c =
+    let files = g.F.Folder.files c.args.folder.now in
+    let word = c.args.word.now in
+    let start : Counts = record { begun = g.F.Folder.begun c.args.folder.now; missed = g.F.Folder.missed c.args.folder.now; faults = g.F.Folder.read_faults c.args.folder.now } in
+    let names = aux_entry c.in_ok-names.names in
+    let inputs : Files = record { nodes = c.in_ok-nodes.nodes; nets = []; weights = None; places = []; rows = [] } in
+    let f0 = front_first files word names inputs start in
+    let f1 = front_next Aux Nodes aux_grammar aux_entry files files word word c.deref.result.now c.in_ok-text.text c.read_aux.result c.in_ok-names.names names inputs start _ _ refl refl (λ told h. h)
+    refl f0 c.in_ok-text.ensures.answer c.deref.ensures.value c.read_aux.ensures c.in_ok-names.ensures in
+    let f2 = front_next Nodes Nets nodes_grammar (λ (file : List NodeEntry). file) files (g.F.Folder.files c.load_as.new.folder) word (beside word names.nodes) c.deref-2.result.now c.in_ok-node_text.node_text c.read_nodes.result c.in_ok-nodes.nodes names inputs start _ _ refl refl (λ told h. h)
+    c.load_as.ensures.files f1 c.in_ok-node_text.ensures.answer c.deref-2.ensures.value c.read_nodes.ensures.reading c.in_ok-nodes.ensures in
+    let stop = c.in_err-net_text.field-0.0 in
+    let p = err_from_is_err_and c.from_residual-in_err-net_text.result c.from_residual-in_err-net_text.ensures.1 in
+    let q : p.0 ≡ stop = p.2 in
+    rw (p.1, q) (stop_load Nets files (g.F.Folder.files c.load_beside.new.folder) word (beside word names.nets) names inputs start _ _ stop (c.load_beside.ensures.files ∙ c.load_as.ensures.files) refl f2 c.in_err-net_text.ensures.answer)
 
 pub returns-in_err-nets-clause-places : goal.returns-in_err-nets-clause-places
 returns-in_err-nets-clause-places g c =
     let files = g.F.Folder.files c.args.folder.now in
     let word = c.args.word.now in
+    let start : Counts = record { begun = g.F.Folder.begun c.args.folder.now; missed = g.F.Folder.missed c.args.folder.now; faults = g.F.Folder.read_faults c.args.folder.now } in
     let names = aux_entry c.in_ok-names.names in
-    let nodes = node_entries c.deref-3.result.now in
+    let inputs : Files = record { nodes = c.in_ok-nodes.nodes; nets = []; weights = None; places = []; rows = [] } in
+    let f0 = front_first files word names inputs start in
+    let f1 = front_next Aux Nodes aux_grammar aux_entry files files word word c.deref.result.now c.in_ok-text.text c.read_aux.result c.in_ok-names.names names inputs start _ _ refl refl (λ told h. h)
+    refl f0 c.in_ok-text.ensures.answer c.deref.ensures.value c.read_aux.ensures c.in_ok-names.ensures in
+    let f2 = front_next Nodes Nets nodes_grammar (λ (file : List NodeEntry). file) files (g.F.Folder.files c.load_as.new.folder) word (beside word names.nodes) c.deref-2.result.now c.in_ok-node_text.node_text c.read_nodes.result c.in_ok-nodes.nodes names inputs start _ _ refl refl (λ told h. h)
+    c.load_as.ensures.files f1 c.in_ok-node_text.ensures.answer c.deref-2.ensures.value c.read_nodes.ensures.reading c.in_ok-nodes.ensures in
     let stop = c.in_err-nets.field-0.0 in
-    let of_aux = WasRead-given files files word c.deref.result.now IsAuxText aux_entry c.in_ok-read_aux.field-0 c.in_ok-names.names _ refl (rw c.deref.ensures.value c.in_ok-text.ensures.answer.0) c.in_ok-read_aux.ensures c.in_ok-names.ensures.value in
-    let of_nodes = WasRead-given files _ _ c.deref-2.result.now IsNodesText (λ nodes. node_entries nodes.items) c.in_ok-read_nodes.field-0 c.in_ok-nodes.nodes _ c.load_as.ensures.files (rw c.deref-2.ensures.value c.in_ok-node_text.ensures.answer.0) c.in_ok-read_nodes.ensures c.in_ok-nodes.ensures.value in
-    let has_nodes : HasNodes files word names nodes = record { of_aux = of_aux; of_nodes = rw c.deref-3.ensures.value of_nodes } in
-    let IsOther : Option (List FileEntry) → Type 0 = λ files. IfSome files (λ told. HasOtherText told (beside word names.nets) (λ text. IsNetsText text nodes)) in
     let p = err_from_is_err_and c.from_residual-in_err-nets.result c.from_residual-in_err-nets.ensures.1 in
     let q : p.0 ≡ stop = p.2 in
-    rw (p.1, q) (Places-stop files _ word _ _ _ Nets IsOther stop (c.load_beside.ensures.files ∙ c.load_as.ensures.files) (c.in_ok-node_text.ensures.answer.1 ∙ c.in_ok-text.ensures.answer.1) (nets-reached files word names nodes has_nodes) (nets-unbuilt files word names nodes has_nodes) c.in_err-nets.ensures.answer)
+    rw (p.1, q) (stop_read Nets nets_grammar (λ (file : List NetEntry). file) files (g.F.Folder.files c.load_beside.new.folder) word (beside word names.nets) c.deref-3.result.now c.in_ok-net_text.net_text c.read_nets.result names inputs start _ _ stop (λ fault h. h)
+    (c.load_beside.ensures.files ∙ c.load_as.ensures.files) refl f2 c.in_ok-net_text.ensures.answer c.deref-3.ensures.value c.read_nets.ensures.reading c.in_err-nets.ensures)
+
+pub returns-in_err-weight_text-clause-places : goal.returns-in_err-weight_text-clause-places
+returns-in_err-weight_text-clause-places g c =
+    let files = g.F.Folder.files c.args.folder.now in
+    let word = c.args.word.now in
+    let start : Counts = record { begun = g.F.Folder.begun c.args.folder.now; missed = g.F.Folder.missed c.args.folder.now; faults = g.F.Folder.read_faults c.args.folder.now } in
+    let names = aux_entry c.in_ok-names.names in
+    let inputs : Files = record { nodes = c.in_ok-nodes.nodes; nets = c.in_ok-nets.nets; weights = None; places = []; rows = [] } in
+    let f0 = front_first files word names inputs start in
+    let f1 = front_next Aux Nodes aux_grammar aux_entry files files word word c.deref.result.now c.in_ok-text.text c.read_aux.result c.in_ok-names.names names inputs start _ _ refl refl (λ told h. h)
+    refl f0 c.in_ok-text.ensures.answer c.deref.ensures.value c.read_aux.ensures c.in_ok-names.ensures in
+    let f2 = front_next Nodes Nets nodes_grammar (λ (file : List NodeEntry). file) files (g.F.Folder.files c.load_as.new.folder) word (beside word names.nodes) c.deref-2.result.now c.in_ok-node_text.node_text c.read_nodes.result c.in_ok-nodes.nodes names inputs start _ _ refl refl (λ told h. h)
+    c.load_as.ensures.files f1 c.in_ok-node_text.ensures.answer c.deref-2.ensures.value c.read_nodes.ensures.reading c.in_ok-nodes.ensures in
+    let f3 = front_next Nets Wts nets_grammar (λ (file : List NetEntry). file) files (g.F.Folder.files c.load_beside.new.folder) word (beside word names.nets) c.deref-3.result.now c.in_ok-net_text.net_text c.read_nets.result c.in_ok-nets.nets names inputs start _ _ refl refl (λ told h. h)
+    (c.load_beside.ensures.files ∙ c.load_as.ensures.files) f2 c.in_ok-net_text.ensures.answer c.deref-3.ensures.value c.read_nets.ensures.reading c.in_ok-nets.ensures in
+    let stop = c.in_err-weight_text.field-0.0 in
+    let p = err_from_is_err_and c.from_residual-in_err-weight_text.result c.from_residual-in_err-weight_text.ensures.1 in
+    let q : p.0 ≡ stop = p.2 in
+    rw (p.1, q) (stop_load_weights files (g.F.Folder.files c.load_beside-2.new.folder) word names inputs start _ _ stop (c.load_beside-2.ensures.files ∙ c.load_beside.ensures.files ∙ c.load_as.ensures.files) f3 c.in_err-weight_text.ensures.answer)
+
+pub returns-in_err-weights-clause-places : goal.returns-in_err-weights-clause-places
+returns-in_err-weights-clause-places g c =
+    let files = g.F.Folder.files c.args.folder.now in
+    let word = c.args.word.now in
+    let start : Counts = record { begun = g.F.Folder.begun c.args.folder.now; missed = g.F.Folder.missed c.args.folder.now; faults = g.F.Folder.read_faults c.args.folder.now } in
+    let names = aux_entry c.in_ok-names.names in
+    let inputs : Files = record { nodes = c.in_ok-nodes.nodes; nets = c.in_ok-nets.nets; weights = None; places = []; rows = [] } in
+    let f0 = front_first files word names inputs start in
+    let f1 = front_next Aux Nodes aux_grammar aux_entry files files word word c.deref.result.now c.in_ok-text.text c.read_aux.result c.in_ok-names.names names inputs start _ _ refl refl (λ told h. h)
+    refl f0 c.in_ok-text.ensures.answer c.deref.ensures.value c.read_aux.ensures c.in_ok-names.ensures in
+    let f2 = front_next Nodes Nets nodes_grammar (λ (file : List NodeEntry). file) files (g.F.Folder.files c.load_as.new.folder) word (beside word names.nodes) c.deref-2.result.now c.in_ok-node_text.node_text c.read_nodes.result c.in_ok-nodes.nodes names inputs start _ _ refl refl (λ told h. h)
+    c.load_as.ensures.files f1 c.in_ok-node_text.ensures.answer c.deref-2.ensures.value c.read_nodes.ensures.reading c.in_ok-nodes.ensures in
+    let f3 = front_next Nets Wts nets_grammar (λ (file : List NetEntry). file) files (g.F.Folder.files c.load_beside.new.folder) word (beside word names.nets) c.deref-3.result.now c.in_ok-net_text.net_text c.read_nets.result c.in_ok-nets.nets names inputs start _ _ refl refl (λ told h. h)
+    (c.load_beside.ensures.files ∙ c.load_as.ensures.files) f2 c.in_ok-net_text.ensures.answer c.deref-3.ensures.value c.read_nets.ensures.reading c.in_ok-nets.ensures in
+    let stop = c.in_err-weights.field-0.0 in
+    let p = err_from_is_err_and c.from_residual-in_err-weights.result c.from_residual-in_err-weights.ensures.1 in
+    let q : p.0 ≡ stop = p.2 in
+    rw (p.1, q) (stop_read_weights files (g.F.Folder.files c.load_beside-2.new.folder) word c.in_ok-weight_text.weight_text _ names inputs start _ _ stop
+    (c.load_beside-2.ensures.files ∙ c.load_beside.ensures.files ∙ c.load_as.ensures.files) f3 c.in_ok-weight_text.ensures.answer c.as_deref.ensures.value c.in_err-weights.ensures)
+
+pub returns-in_err-place_text-clause-places : goal.returns-in_err-place_text-clause-places
+returns-in_err-place_text-clause-places g c =
+    let files = g.F.Folder.files c.args.folder.now in
+    let word = c.args.word.now in
+    let start : Counts = record { begun = g.F.Folder.begun c.args.folder.now; missed = g.F.Folder.missed c.args.folder.now; faults = g.F.Folder.read_faults c.args.folder.now } in
+    let names = aux_entry c.in_ok-names.names in
+    let inputs : Files = record { nodes = c.in_ok-nodes.nodes; nets = c.in_ok-nets.nets; weights = c.in_ok-weights.weights; places = []; rows = [] } in
+    let f0 = front_first files word names inputs start in
+    let f1 = front_next Aux Nodes aux_grammar aux_entry files files word word c.deref.result.now c.in_ok-text.text c.read_aux.result c.in_ok-names.names names inputs start _ _ refl refl (λ told h. h)
+    refl f0 c.in_ok-text.ensures.answer c.deref.ensures.value c.read_aux.ensures c.in_ok-names.ensures in
+    let f2 = front_next Nodes Nets nodes_grammar (λ (file : List NodeEntry). file) files (g.F.Folder.files c.load_as.new.folder) word (beside word names.nodes) c.deref-2.result.now c.in_ok-node_text.node_text c.read_nodes.result c.in_ok-nodes.nodes names inputs start _ _ refl refl (λ told h. h)
+    c.load_as.ensures.files f1 c.in_ok-node_text.ensures.answer c.deref-2.ensures.value c.read_nodes.ensures.reading c.in_ok-nodes.ensures in
+    let f3 = front_next Nets Wts nets_grammar (λ (file : List NetEntry). file) files (g.F.Folder.files c.load_beside.new.folder) word (beside word names.nets) c.deref-3.result.now c.in_ok-net_text.net_text c.read_nets.result c.in_ok-nets.nets names inputs start _ _ refl refl (λ told h. h)
+    (c.load_beside.ensures.files ∙ c.load_as.ensures.files) f2 c.in_ok-net_text.ensures.answer c.deref-3.ensures.value c.read_nets.ensures.reading c.in_ok-nets.ensures in
+    let f4 = front_weights files (g.F.Folder.files c.load_beside-2.new.folder) word c.in_ok-weight_text.weight_text _ c.in_ok-weights.weights names inputs start _ _ refl
+    (c.load_beside-2.ensures.files ∙ c.load_beside.ensures.files ∙ c.load_as.ensures.files) f3 c.in_ok-weight_text.ensures.answer c.as_deref.ensures.value c.in_ok-weights.ensures in
+    let stop = c.in_err-place_text.field-0.0 in
+    let p = err_from_is_err_and c.from_residual-in_err-place_text.result c.from_residual-in_err-place_text.ensures.1 in
+    let q : p.0 ≡ stop = p.2 in
+    rw (p.1, q) (stop_load Pl files (g.F.Folder.files c.load_weights.new.folder) word (beside word names.pl) names inputs start _ _ stop (c.load_weights.ensures.files ∙ c.load_beside-2.ensures.files ∙ c.load_beside.ensures.files ∙ c.load_as.ensures.files) refl f4 c.in_err-place_text.ensures.answer)
 
 pub returns-in_err-places-clause-places : goal.returns-in_err-places-clause-places
 returns-in_err-places-clause-places g c =
     let files = g.F.Folder.files c.args.folder.now in
     let word = c.args.word.now in
+    let start : Counts = record { begun = g.F.Folder.begun c.args.folder.now; missed = g.F.Folder.missed c.args.folder.now; faults = g.F.Folder.read_faults c.args.folder.now } in
     let names = aux_entry c.in_ok-names.names in
-    let nodes = node_entries c.deref-4.result.now in
-    let nets = net_entries c.in_ok-nets.nets.items in
+    let inputs : Files = record { nodes = c.in_ok-nodes.nodes; nets = c.in_ok-nets.nets; weights = c.in_ok-weights.weights; places = []; rows = [] } in
+    let f0 = front_first files word names inputs start in
+    let f1 = front_next Aux Nodes aux_grammar aux_entry files files word word c.deref.result.now c.in_ok-text.text c.read_aux.result c.in_ok-names.names names inputs start _ _ refl refl (λ told h. h)
+    refl f0 c.in_ok-text.ensures.answer c.deref.ensures.value c.read_aux.ensures c.in_ok-names.ensures in
+    let f2 = front_next Nodes Nets nodes_grammar (λ (file : List NodeEntry). file) files (g.F.Folder.files c.load_as.new.folder) word (beside word names.nodes) c.deref-2.result.now c.in_ok-node_text.node_text c.read_nodes.result c.in_ok-nodes.nodes names inputs start _ _ refl refl (λ told h. h)
+    c.load_as.ensures.files f1 c.in_ok-node_text.ensures.answer c.deref-2.ensures.value c.read_nodes.ensures.reading c.in_ok-nodes.ensures in
+    let f3 = front_next Nets Wts nets_grammar (λ (file : List NetEntry). file) files (g.F.Folder.files c.load_beside.new.folder) word (beside word names.nets) c.deref-3.result.now c.in_ok-net_text.net_text c.read_nets.result c.in_ok-nets.nets names inputs start _ _ refl refl (λ told h. h)
+    (c.load_beside.ensures.files ∙ c.load_as.ensures.files) f2 c.in_ok-net_text.ensures.answer c.deref-3.ensures.value c.read_nets.ensures.reading c.in_ok-nets.ensures in
+    let f4 = front_weights files (g.F.Folder.files c.load_beside-2.new.folder) word c.in_ok-weight_text.weight_text _ c.in_ok-weights.weights names inputs start _ _ refl
+    (c.load_beside-2.ensures.files ∙ c.load_beside.ensures.files ∙ c.load_as.ensures.files) f3 c.in_ok-weight_text.ensures.answer c.as_deref.ensures.value c.in_ok-weights.ensures in
     let stop = c.in_err-places.field-0.0 in
-    let of_aux = WasRead-given files files word c.deref.result.now IsAuxText aux_entry c.in_ok-read_aux.field-0 c.in_ok-names.names _ refl (rw c.deref.ensures.value c.in_ok-text.ensures.answer.0) c.in_ok-read_aux.ensures c.in_ok-names.ensures.value in
-    let of_nodes = WasRead-given files _ _ c.deref-2.result.now IsNodesText (λ nodes. node_entries nodes.items) c.in_ok-read_nodes.field-0 c.in_ok-nodes.nodes _ c.load_as.ensures.files (rw c.deref-2.ensures.value c.in_ok-node_text.ensures.answer.0) c.in_ok-read_nodes.ensures c.in_ok-nodes.ensures.value in
-    let has_nodes : HasNodes files word names nodes = record { of_aux = of_aux; of_nodes = rw c.deref-4.ensures.value of_nodes } in
-    let of_nets = WasRead-kept files _ _ _ nets (c.load_beside.ensures.files ∙ c.load_as.ensures.files) c.in_ok-nets.ensures.answer.0 in
-    let has_nets : HasNets files word names nodes nets = record { before = has_nodes; of_nets = rw (c.deref-4.ensures.value, ← c.deref-3.ensures.value) of_nets } in
-    let IsOther : Option (List FileEntry) → Type 0 = λ files. IfSome files (λ told. HasOtherText told (beside word names.pl) (λ text. IsPlText text nodes)) in
     let p = err_from_is_err_and c.from_residual-in_err-places.result c.from_residual-in_err-places.ensures.1 in
     let q : p.0 ≡ stop = p.2 in
-    rw (p.1, q) (Places-stop files _ word _ _ _ Pl IsOther stop (c.read_nets_beside.ensures.files ∙ c.load_beside.ensures.files ∙ c.load_as.ensures.files) (c.in_ok-nets.ensures.answer.1 ∙ c.in_ok-node_text.ensures.answer.1 ∙ c.in_ok-text.ensures.answer.1) (pl-reached files word names nodes nets has_nets) (pl-unbuilt files word names nodes nets has_nets) c.in_err-places.ensures.answer)
+    rw (p.1, q) (stop_read Pl places_grammar (λ (file : List PlaceEntry). file) files (g.F.Folder.files c.load_weights.new.folder) word (beside word names.pl) c.deref-4.result.now c.in_ok-place_text.place_text c.read_pl.result names inputs start _ _ stop (λ fault h. h)
+    (c.load_weights.ensures.files ∙ c.load_beside-2.ensures.files ∙ c.load_beside.ensures.files ∙ c.load_as.ensures.files) refl f4 c.in_ok-place_text.ensures.answer c.deref-4.ensures.value c.read_pl.ensures.reading c.in_err-places.ensures)
 
-pub returns-in_err-row-clause-places : goal.returns-in_err-row-clause-places
-returns-in_err-row-clause-places g c =
+pub returns-in_err-row_text-clause-places : goal.returns-in_err-row_text-clause-places
+returns-in_err-row_text-clause-places g c =
     let files = g.F.Folder.files c.args.folder.now in
     let word = c.args.word.now in
+    let start : Counts = record { begun = g.F.Folder.begun c.args.folder.now; missed = g.F.Folder.missed c.args.folder.now; faults = g.F.Folder.read_faults c.args.folder.now } in
     let names = aux_entry c.in_ok-names.names in
-    let nodes = node_entries c.deref-4.result.now in
-    let nets = net_entries c.in_ok-nets.nets.items in
-    let places = place_entries c.in_ok-places.places.items in
-    let stop = c.in_err-row.field-0.0 in
-    let of_aux = WasRead-given files files word c.deref.result.now IsAuxText aux_entry c.in_ok-read_aux.field-0 c.in_ok-names.names _ refl (rw c.deref.ensures.value c.in_ok-text.ensures.answer.0) c.in_ok-read_aux.ensures c.in_ok-names.ensures.value in
-    let of_nodes = WasRead-given files _ _ c.deref-2.result.now IsNodesText (λ nodes. node_entries nodes.items) c.in_ok-read_nodes.field-0 c.in_ok-nodes.nodes _ c.load_as.ensures.files (rw c.deref-2.ensures.value c.in_ok-node_text.ensures.answer.0) c.in_ok-read_nodes.ensures c.in_ok-nodes.ensures.value in
-    let has_nodes : HasNodes files word names nodes = record { of_aux = of_aux; of_nodes = rw c.deref-4.ensures.value of_nodes } in
-    let of_nets = WasRead-kept files _ _ _ nets (c.load_beside.ensures.files ∙ c.load_as.ensures.files) c.in_ok-nets.ensures.answer.0 in
-    let has_nets : HasNets files word names nodes nets = record { before = has_nodes; of_nets = rw (c.deref-4.ensures.value, ← c.deref-3.ensures.value) of_nets } in
-    let of_pl = WasRead-kept files _ _ _ places (c.read_nets_beside.ensures.files ∙ c.load_beside.ensures.files ∙ c.load_as.ensures.files) c.in_ok-places.ensures.answer.0 in
-    let has_places : HasPlaces files word names nodes nets places = record { before = has_nets; of_pl = of_pl } in
-    let IsOther : Option (List FileEntry) → Type 0 = λ files. IfSome files (λ told. HasOtherText told (beside word names.scl) IsSclText) in
-    let p = err_from_is_err_and c.from_residual-in_err-row.result c.from_residual-in_err-row.ensures.1 in
+    let inputs : Files = record { nodes = c.in_ok-nodes.nodes; nets = c.in_ok-nets.nets; weights = c.in_ok-weights.weights; places = c.in_ok-places.places; rows = [] } in
+    let f0 = front_first files word names inputs start in
+    let f1 = front_next Aux Nodes aux_grammar aux_entry files files word word c.deref.result.now c.in_ok-text.text c.read_aux.result c.in_ok-names.names names inputs start _ _ refl refl (λ told h. h)
+    refl f0 c.in_ok-text.ensures.answer c.deref.ensures.value c.read_aux.ensures c.in_ok-names.ensures in
+    let f2 = front_next Nodes Nets nodes_grammar (λ (file : List NodeEntry). file) files (g.F.Folder.files c.load_as.new.folder) word (beside word names.nodes) c.deref-2.result.now c.in_ok-node_text.node_text c.read_nodes.result c.in_ok-nodes.nodes names inputs start _ _ refl refl (λ told h. h)
+    c.load_as.ensures.files f1 c.in_ok-node_text.ensures.answer c.deref-2.ensures.value c.read_nodes.ensures.reading c.in_ok-nodes.ensures in
+    let f3 = front_next Nets Wts nets_grammar (λ (file : List NetEntry). file) files (g.F.Folder.files c.load_beside.new.folder) word (beside word names.nets) c.deref-3.result.now c.in_ok-net_text.net_text c.read_nets.result c.in_ok-nets.nets names inputs start _ _ refl refl (λ told h. h)
+    (c.load_beside.ensures.files ∙ c.load_as.ensures.files) f2 c.in_ok-net_text.ensures.answer c.deref-3.ensures.value c.read_nets.ensures.reading c.in_ok-nets.ensures in
+    let f4 = front_weights files (g.F.Folder.files c.load_beside-2.new.folder) word c.in_ok-weight_text.weight_text _ c.in_ok-weights.weights names inputs start _ _ refl
+    (c.load_beside-2.ensures.files ∙ c.load_beside.ensures.files ∙ c.load_as.ensures.files) f3 c.in_ok-weight_text.ensures.answer c.as_deref.ensures.value c.in_ok-weights.ensures in
+    let f5 = front_next Pl Scl places_grammar (λ (file : List PlaceEntry). file) files (g.F.Folder.files c.load_weights.new.folder) word (beside word names.pl) c.deref-4.result.now c.in_ok-place_text.place_text c.read_pl.result c.in_ok-places.places names inputs start _ _ refl (let e : 5 + weight_files names.wts ≡ suc (4 + weight_files names.wts) = omega arith in e) (λ told h. h)
+    (c.load_weights.ensures.files ∙ c.load_beside-2.ensures.files ∙ c.load_beside.ensures.files ∙ c.load_as.ensures.files) f4 c.in_ok-place_text.ensures.answer c.deref-4.ensures.value c.read_pl.ensures.reading c.in_ok-places.ensures in
+    let stop = c.in_err-row_text.field-0.0 in
+    let p = err_from_is_err_and c.from_residual-in_err-row_text.result c.from_residual-in_err-row_text.ensures.1 in
     let q : p.0 ≡ stop = p.2 in
-    rw (p.1, q) (Places-stop files _ word _ _ _ Scl IsOther stop (c.read_pl_beside.ensures.files ∙ c.read_nets_beside.ensures.files ∙ c.load_beside.ensures.files ∙ c.load_as.ensures.files) (c.in_ok-places.ensures.answer.1 ∙ c.in_ok-nets.ensures.answer.1 ∙ c.in_ok-node_text.ensures.answer.1 ∙ c.in_ok-text.ensures.answer.1) (scl-reached files word names nodes nets places has_places) (scl-unbuilt files word names nodes nets places has_places) c.in_err-row.ensures.answer)
+    rw (p.1, q) (stop_load Scl files (g.F.Folder.files c.load_beside-3.new.folder) word (beside word names.scl) names inputs start _ _ stop (c.load_beside-3.ensures.files ∙ c.load_weights.ensures.files ∙ c.load_beside-2.ensures.files ∙ c.load_beside.ensures.files ∙ c.load_as.ensures.files) refl f5 c.in_err-row_text.ensures.answer)
 
-pub solved-requires : goal.solved-requires
-solved-requires g c =
-    let design = design_of c.in_ok-nodes.nodes.items c.in_ok-nets.nets.items c.in_ok-places.places.items c.in_ok-row.row in
-    let of_nodes = WasRead-given (g.F.Folder.files c.load_as.new.folder) _ (beside c.args.word.now c.in_ok-names.names.nodes.now) c.deref-2.result.now IsNodesText (λ nodes. node_entries nodes.items) c.in_ok-read_nodes.field-0 c.in_ok-nodes.nodes _ refl (rw c.deref-2.ensures.value c.in_ok-node_text.ensures.answer.0) c.in_ok-read_nodes.ensures c.in_ok-nodes.ensures.value in
-    let of_nets = c.in_ok-nets.ensures.answer.0 in
-    let of_pl = c.in_ok-places.ensures.answer.0 in
-    let of_scl = c.in_ok-row.ensures.answer.0 in
-    rw (c.deref-5.ensures.value, c.deref-6.ensures.value, c.deref-7.ensures.value) (well_formed design of_nodes.text of_nets.text of_pl.text of_scl.text
-    of_nodes.is_read (rw (← c.deref-3.ensures.value) of_nets.is_read) (rw (← c.deref-4.ensures.value) of_pl.is_read) of_scl.is_read)
+pub returns-in_err-rows-clause-places : goal.returns-in_err-rows-clause-places
+returns-in_err-rows-clause-places g c =
+    let files = g.F.Folder.files c.args.folder.now in
+    let word = c.args.word.now in
+    let start : Counts = record { begun = g.F.Folder.begun c.args.folder.now; missed = g.F.Folder.missed c.args.folder.now; faults = g.F.Folder.read_faults c.args.folder.now } in
+    let names = aux_entry c.in_ok-names.names in
+    let inputs : Files = record { nodes = c.in_ok-nodes.nodes; nets = c.in_ok-nets.nets; weights = c.in_ok-weights.weights; places = c.in_ok-places.places; rows = [] } in
+    let f0 = front_first files word names inputs start in
+    let f1 = front_next Aux Nodes aux_grammar aux_entry files files word word c.deref.result.now c.in_ok-text.text c.read_aux.result c.in_ok-names.names names inputs start _ _ refl refl (λ told h. h)
+    refl f0 c.in_ok-text.ensures.answer c.deref.ensures.value c.read_aux.ensures c.in_ok-names.ensures in
+    let f2 = front_next Nodes Nets nodes_grammar (λ (file : List NodeEntry). file) files (g.F.Folder.files c.load_as.new.folder) word (beside word names.nodes) c.deref-2.result.now c.in_ok-node_text.node_text c.read_nodes.result c.in_ok-nodes.nodes names inputs start _ _ refl refl (λ told h. h)
+    c.load_as.ensures.files f1 c.in_ok-node_text.ensures.answer c.deref-2.ensures.value c.read_nodes.ensures.reading c.in_ok-nodes.ensures in
+    let f3 = front_next Nets Wts nets_grammar (λ (file : List NetEntry). file) files (g.F.Folder.files c.load_beside.new.folder) word (beside word names.nets) c.deref-3.result.now c.in_ok-net_text.net_text c.read_nets.result c.in_ok-nets.nets names inputs start _ _ refl refl (λ told h. h)
+    (c.load_beside.ensures.files ∙ c.load_as.ensures.files) f2 c.in_ok-net_text.ensures.answer c.deref-3.ensures.value c.read_nets.ensures.reading c.in_ok-nets.ensures in
+    let f4 = front_weights files (g.F.Folder.files c.load_beside-2.new.folder) word c.in_ok-weight_text.weight_text _ c.in_ok-weights.weights names inputs start _ _ refl
+    (c.load_beside-2.ensures.files ∙ c.load_beside.ensures.files ∙ c.load_as.ensures.files) f3 c.in_ok-weight_text.ensures.answer c.as_deref.ensures.value c.in_ok-weights.ensures in
+    let f5 = front_next Pl Scl places_grammar (λ (file : List PlaceEntry). file) files (g.F.Folder.files c.load_weights.new.folder) word (beside word names.pl) c.deref-4.result.now c.in_ok-place_text.place_text c.read_pl.result c.in_ok-places.places names inputs start _ _ refl (let e : 5 + weight_files names.wts ≡ suc (4 + weight_files names.wts) = omega arith in e) (λ told h. h)
+    (c.load_weights.ensures.files ∙ c.load_beside-2.ensures.files ∙ c.load_beside.ensures.files ∙ c.load_as.ensures.files) f4 c.in_ok-place_text.ensures.answer c.deref-4.ensures.value c.read_pl.ensures.reading c.in_ok-places.ensures in
+    let stop = c.in_err-rows.field-0.0 in
+    let p = err_from_is_err_and c.from_residual-in_err-rows.result c.from_residual-in_err-rows.ensures.1 in
+    let q : p.0 ≡ stop = p.2 in
+    rw (p.1, q) (stop_read Scl rows_grammar (λ (file : List RowEntry). file) files (g.F.Folder.files c.load_beside-3.new.folder) word (beside word names.scl) c.deref-5.result.now c.in_ok-row_text.row_text c.read_scl.result names inputs start _ _ stop (λ fault h. h)
+    (c.load_beside-3.ensures.files ∙ c.load_weights.ensures.files ∙ c.load_beside-2.ensures.files ∙ c.load_beside.ensures.files ∙ c.load_as.ensures.files) refl f5 c.in_ok-row_text.ensures.answer c.deref-5.ensures.value c.read_scl.ensures.reading c.in_err-rows.ensures)
 
 pub returns-clause-places : goal.returns-clause-places
 returns-clause-places g c =
     let files = g.F.Folder.files c.args.folder.now in
     let word = c.args.word.now in
+    let start : Counts = record { begun = g.F.Folder.begun c.args.folder.now; missed = g.F.Folder.missed c.args.folder.now; faults = g.F.Folder.read_faults c.args.folder.now } in
     let names = aux_entry c.in_ok-names.names in
-    let design = design_of c.in_ok-nodes.nodes.items c.in_ok-nets.nets.items c.in_ok-places.places.items c.in_ok-row.row in
-    let of_aux = WasRead-given files files word c.deref.result.now IsAuxText aux_entry c.in_ok-read_aux.field-0 c.in_ok-names.names _ refl (rw c.deref.ensures.value c.in_ok-text.ensures.answer.0) c.in_ok-read_aux.ensures c.in_ok-names.ensures.value in
-    let of_nodes = WasRead-given files _ _ c.deref-2.result.now IsNodesText (λ nodes. node_entries nodes.items) c.in_ok-read_nodes.field-0 c.in_ok-nodes.nodes _ c.load_as.ensures.files (rw c.deref-2.ensures.value c.in_ok-node_text.ensures.answer.0) c.in_ok-read_nodes.ensures c.in_ok-nodes.ensures.value in
-    let has_nodes : HasNodes files word names design.nodes = record { of_aux = of_aux; of_nodes = of_nodes } in
-    let of_nets = WasRead-kept files _ _ _ design.nets (c.load_beside.ensures.files ∙ c.load_as.ensures.files) c.in_ok-nets.ensures.answer.0 in
-    let has_nets : HasNets files word names design.nodes design.nets = record { before = has_nodes; of_nets = rw (← c.deref-3.ensures.value) of_nets } in
-    let of_pl = WasRead-kept files _ _ _ design.places (c.read_nets_beside.ensures.files ∙ c.load_beside.ensures.files ∙ c.load_as.ensures.files) c.in_ok-places.ensures.answer.0 in
-    let has_places : HasPlaces files word names design.nodes design.nets design.places = record { before = has_nets; of_pl = rw (← c.deref-4.ensures.value) of_pl } in
-    let of_scl = WasRead-kept files _ _ _ design.row (c.read_pl_beside.ensures.files ∙ c.read_nets_beside.ensures.files ∙ c.load_beside.ensures.files ∙ c.load_as.ensures.files) c.in_ok-row.ensures.answer.0 in
-    (IsReportOf-read files word c.in_ok-solved.field-0.items names design has_places of_scl (rw (← c.deref-5.ensures.value, ← c.deref-6.ensures.value, ← c.deref-7.ensures.value) c.in_ok-solved.ensures), c.in_ok-row.ensures.answer.1 ∙ c.in_ok-places.ensures.answer.1 ∙ c.in_ok-nets.ensures.answer.1 ∙ c.in_ok-node_text.ensures.answer.1 ∙ c.in_ok-text.ensures.answer.1)
+    let inputs : Files = record { nodes = c.in_ok-nodes.nodes; nets = c.in_ok-nets.nets; weights = c.in_ok-weights.weights; places = c.in_ok-places.places; rows = c.in_ok-rows.rows } in
+    let f0 = front_first files word names inputs start in
+    let f1 = front_next Aux Nodes aux_grammar aux_entry files files word word c.deref.result.now c.in_ok-text.text c.read_aux.result c.in_ok-names.names names inputs start _ _ refl refl (λ told h. h)
+    refl f0 c.in_ok-text.ensures.answer c.deref.ensures.value c.read_aux.ensures c.in_ok-names.ensures in
+    let f2 = front_next Nodes Nets nodes_grammar (λ (file : List NodeEntry). file) files (g.F.Folder.files c.load_as.new.folder) word (beside word names.nodes) c.deref-2.result.now c.in_ok-node_text.node_text c.read_nodes.result c.in_ok-nodes.nodes names inputs start _ _ refl refl (λ told h. h)
+    c.load_as.ensures.files f1 c.in_ok-node_text.ensures.answer c.deref-2.ensures.value c.read_nodes.ensures.reading c.in_ok-nodes.ensures in
+    let f3 = front_next Nets Wts nets_grammar (λ (file : List NetEntry). file) files (g.F.Folder.files c.load_beside.new.folder) word (beside word names.nets) c.deref-3.result.now c.in_ok-net_text.net_text c.read_nets.result c.in_ok-nets.nets names inputs start _ _ refl refl (λ told h. h)
+    (c.load_beside.ensures.files ∙ c.load_as.ensures.files) f2 c.in_ok-net_text.ensures.answer c.deref-3.ensures.value c.read_nets.ensures.reading c.in_ok-nets.ensures in
+    let f4 = front_weights files (g.F.Folder.files c.load_beside-2.new.folder) word c.in_ok-weight_text.weight_text _ c.in_ok-weights.weights names inputs start _ _ refl
+    (c.load_beside-2.ensures.files ∙ c.load_beside.ensures.files ∙ c.load_as.ensures.files) f3 c.in_ok-weight_text.ensures.answer c.as_deref.ensures.value c.in_ok-weights.ensures in
+    let f5 = front_next Pl Scl places_grammar (λ (file : List PlaceEntry). file) files (g.F.Folder.files c.load_weights.new.folder) word (beside word names.pl) c.deref-4.result.now c.in_ok-place_text.place_text c.read_pl.result c.in_ok-places.places names inputs start _ _ refl (let e : 5 + weight_files names.wts ≡ suc (4 + weight_files names.wts) = omega arith in e) (λ told h. h)
+    (c.load_weights.ensures.files ∙ c.load_beside-2.ensures.files ∙ c.load_beside.ensures.files ∙ c.load_as.ensures.files) f4 c.in_ok-place_text.ensures.answer c.deref-4.ensures.value c.read_pl.ensures.reading c.in_ok-places.ensures in
+    let last = front_last rows_grammar (λ (file : List RowEntry). file) files (g.F.Folder.files c.load_beside-3.new.folder) word (beside word names.scl) c.deref-5.result.now c.in_ok-row_text.row_text c.read_scl.result c.in_ok-rows.rows names inputs start _ _ (λ told h. h)
+    (c.load_beside-3.ensures.files ∙ c.load_weights.ensures.files ∙ c.load_beside-2.ensures.files ∙ c.load_beside.ensures.files ∙ c.load_as.ensures.files) f5 c.in_ok-row_text.ensures.answer c.deref-5.ensures.value c.read_scl.ensures.reading c.in_ok-rows.ensures in
+    let given : Files = record { nodes = c.in_ok-nodes.nodes; nets = c.in_ok-nets.nets; weights = option_map (λ w. w.now) c.as_ref.result; places = c.in_ok-places.places; rows = c.in_ok-rows.rows } in
+    let same : given ≡ inputs = same_files given inputs refl refl c.as_ref.ensures.value refl refl in
+    let P : Files → Type 0 = λ x. Solves x c.solved.result in
+    ends files word start _ names inputs c.solved.result last.0 last.1 (subst P same c.solved.ensures)

@@ -1,4 +1,0 @@
-pub mod Narrow
-pub mod Answers
-pub mod Views
-pub mod Reading

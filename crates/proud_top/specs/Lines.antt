@@ -1,0 +1,75 @@
+-- The lines that tell why there is no report.
+use Rattle.std.specs.Prelude.{ℕ, List, [], ◌∷◌, ◌++◌, codes, decimal}
+use Rattle.book_files.specs.declared.records.FileKind.{FileKind}
+use Rattle.book_files.specs.declared.records.FileKind.TheVariants.{Aux, Nodes, Nets, Wts, Pl, Scl}
+use Rattle.book_files.specs.declared.fault.TextKind.{TextKind}
+use Rattle.book_files.specs.declared.fault.TextKind.TheVariants.{BadHeader, BadLine, BadNumber, CountMismatch}
+use Rattle.book_design.specs.declared.fault.DesignFault.{DesignFault}
+use Rattle.book_design.specs.declared.fault.DesignFault.TheVariants.{DuplicateName, UnknownName, NoPosition, NoRows, MixedRows, RowsOverlap, TallCell, Limit}
+use Rattle.proud_top.specs.declared.status.Refusal.{Refusal}
+use Rattle.proud_top.specs.declared.status.Refusal.TheVariants.{TooLong, Text, Design, NotBuilt}
+
+-- how a kind of file is printed
+abbrev pub kind_text : FileKind → List ℕ
+kind_text Aux = codes "aux"
+kind_text Nodes = codes "nodes"
+kind_text Nets = codes "nets"
+kind_text Wts = codes "wts"
+kind_text Pl = codes "pl"
+kind_text Scl = codes "scl"
+
+-- the byte 10 ends a line
+abbrev pub ended : List ℕ → List ℕ
+ended text = text ++ 10 ∷ []
+
+abbrev pub usage_line : List ℕ
+usage_line = ended (codes "usage: proud DESIGN")
+
+abbrev pub cannot_read_line : FileKind → List ℕ
+cannot_read_line kind = ended (codes "proud: cannot read " ++ kind_text kind)
+
+abbrev pub count_cause : ℕ → ℕ → List ℕ
+count_cause told found = codes "count " ++ decimal told ++ codes " but " ++ decimal found
+
+-- what is wrong with a line of a file
+abbrev pub text_cause : TextKind → List ℕ
+text_cause BadHeader = codes "bad header"
+text_cause BadLine = codes "bad line"
+text_cause BadNumber = codes "bad number"
+text_cause (CountMismatch told found) = count_cause told found
+
+-- what is wrong with a node or a row
+abbrev pub node_cause : List ℕ → List ℕ → List ℕ
+node_cause name wrong = codes "node " ++ name ++ codes ": " ++ wrong
+
+abbrev pub row_cause : ℕ → List ℕ → List ℕ
+row_cause row wrong = codes "row " ++ decimal row ++ codes ": " ++ wrong
+
+-- a line of a file
+abbrev pub line_place : FileKind → ℕ → List ℕ
+line_place kind line = kind_text kind ++ codes ":" ++ decimal line ++ codes ": "
+
+-- a quantity past its limit
+abbrev pub limit_cause : ℕ → ℕ → List ℕ
+limit_cause kind number = codes "limit " ++ decimal kind ++ codes " " ++ decimal number
+
+-- what is wrong with the files together; the name is that of the node that the fault names
+abbrev pub design_cause : DesignFault → List ℕ → List ℕ
+design_cause (DuplicateName line) name = line_place Nodes line ++ codes "name given twice"
+design_cause (UnknownName file line) name = line_place file line ++ codes "unknown name"
+design_cause (NoPosition node) name = node_cause name (codes "no position")
+design_cause NoRows name = codes "no rows"
+design_cause (MixedRows row) name = row_cause row (codes "mixed rows")
+design_cause (RowsOverlap row) name = row_cause row (codes "overlaps")
+design_cause (TallCell node) name = node_cause name (codes "taller than a row")
+design_cause (Limit kind number) name = limit_cause kind number
+
+abbrev pub cause_text : Refusal → List ℕ → List ℕ
+cause_text (TooLong kind) name = kind_text kind ++ codes ": longer than 268435456 bytes"
+cause_text (Text kind fault) name = line_place kind fault.line ++ text_cause fault.kind
+cause_text (Design fault) name = design_cause fault name
+cause_text (NotBuilt kind) name = codes "not built: " ++ kind_text kind
+
+-- the line of a refusal; the name is that of the node that it names
+abbrev pub refusal_line : Refusal → List ℕ → List ℕ
+refusal_line refusal name = ended (codes "proud: " ++ cause_text refusal name)

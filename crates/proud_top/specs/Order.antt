@@ -1,0 +1,38 @@
+-- The order in which the files of a design are read.
+use Rattle.std.specs.Prelude.{ℕ, ◌+◌, List, Option, Some, None, option_map}
+use Rattle.book_files.specs.declared.records.FileKind.{FileKind}
+use Rattle.book_files.specs.declared.records.FileKind.TheVariants.{Aux, Nodes, Nets, Wts, Pl, Scl}
+use Rattle.book_files.specs.Entries.{AuxEntry}
+use Rattle.proud_top.specs.Request.{beside}
+
+-- a file is read before those of a higher rank
+abbrev pub rank : FileKind → ℕ
+rank Aux = 0
+rank Nodes = 1
+rank Nets = 2
+rank Wts = 3
+rank Pl = 4
+rank Scl = 5
+
+-- The name of the file of the kind: the design's word for the aux file, and what that file names for the others. It may name no weights.
+abbrev pub name_of : List ℕ → AuxEntry → FileKind → Option (List ℕ)
+name_of word names Aux = Some word
+name_of word names Nodes = Some (beside word names.nodes)
+name_of word names Nets = Some (beside word names.nets)
+name_of word names Wts = option_map (beside word) names.wts
+name_of word names Pl = Some (beside word names.pl)
+name_of word names Scl = Some (beside word names.scl)
+
+-- how many files of weights there are
+abbrev pub weight_files : Option (List ℕ) → ℕ
+weight_files None = 0
+weight_files (Some name) = 1
+
+-- the place of the file of the kind among the files that are read, counted from 1
+abbrev pub place_of : AuxEntry → FileKind → ℕ
+place_of names Aux = 1
+place_of names Nodes = 2
+place_of names Nets = 3
+place_of names Wts = 4
+place_of names Pl = 4 + weight_files names.wts
+place_of names Scl = 5 + weight_files names.wts

@@ -1,0 +1,158 @@
+//! The lines that tell why there is no report.
+
+ghost use Rattle.std.specs.Prelude.{◌≡◌, ◌++◌, IfOk, OnOk};
+ghost use Rattle.proud_top.specs.Lines.{kind_text, cannot_read_line, line_place, count_cause, text_cause, node_cause, row_cause, limit_cause, design_cause, cause_text, refusal_line};
+
+use crate::status::Refusal;
+use book_design::DesignFault;
+use book_files::{FileKind, TextKind};
+use book_text::Memory;
+use std::alloc::Global;
+
+/// The line that tells that a file couldn't be read.
+pub(crate) fn fault_line(alloc: Global, kind: FileKind) -> Result<Vec<u8>, Memory>
+    ensures { IfOk result (λ line. line.items ≡ cannot_read_line kind) }
+{
+    let mut line = Vec::from_slice(alloc, b"proud: cannot read ")?;
+    line.extend_from_slice(kind_text(kind).as_bytes())?;
+    line.push(b'\n')?;
+    Ok(line)
+}
+
+/// The line that tells a refusal. The name is that of the node that the refusal names.
+pub(crate) fn refusal_line(alloc: Global, refusal: Refusal, name: &[u8]) -> Result<Vec<u8>, Memory>
+    ensures { IfOk result (λ line. line.items ≡ refusal_line refusal name.now) }
+{
+    let mut line = Vec::from_slice(alloc, b"proud: ")?;
+    push_cause(alloc, &mut line, refusal, name)?;
+    line.push(b'\n')?;
+    Ok(line)
+}
+
+/// Appends the cause of a refusal.
+fn push_cause(
+    alloc: Global,
+    line: &mut Vec<u8>,
+    refusal: Refusal,
+    name: &[u8],
+) -> Result<(), Memory>
+    ensures { OnOk result (line.new.items ≡ line.old.items ++ cause_text refusal name.now) }
+{
+    match refusal {
+        Refusal::TooLong(kind) => {
+            push(line, kind_text(kind))?;
+            push(line, ": longer than 268435456 bytes")
+        }
+        Refusal::Text(kind, fault) => {
+            push_place(alloc, line, kind, fault.line)?;
+            push_text_cause(alloc, line, fault.kind)
+        }
+        Refusal::Design(fault) => push_design_cause(alloc, line, fault, name),
+        Refusal::NotBuilt(kind) => {
+            push(line, "not built: ")?;
+            push(line, kind_text(kind))
+        }
+    }
+}
+
+/// Appends what is wrong with a line of a file.
+fn push_text_cause(alloc: Global, line: &mut Vec<u8>, kind: TextKind) -> Result<(), Memory>
+    ensures { OnOk result (line.new.items ≡ line.old.items ++ text_cause kind) }
+{
+    match kind {
+        TextKind::BadHeader => push(line, "bad header"),
+        TextKind::BadLine => push(line, "bad line"),
+        TextKind::BadNumber => push(line, "bad number"),
+        TextKind::CountMismatch { told, found } => push_counts(alloc, line, told, found),
+    }
+}
+
+/// Appends two counts that differ.
+fn push_counts(alloc: Global, line: &mut Vec<u8>, told: u64, found: u64) -> Result<(), Memory>
+    ensures { OnOk result (line.new.items ≡ line.old.items ++ count_cause told found) }
+{
+    let counts = format!(in alloc; "count {told} but {found}")?;
+    push(line, counts.as_str())
+}
+
+/// Appends what is wrong with the files together.
+fn push_design_cause(
+    alloc: Global,
+    line: &mut Vec<u8>,
+    fault: DesignFault,
+    name: &[u8],
+) -> Result<(), Memory>
+    ensures { OnOk result (line.new.items ≡ line.old.items ++ design_cause fault name.now) }
+{
+    match fault {
+        DesignFault::DuplicateName { line: number } => {
+            push_place(alloc, line, FileKind::Nodes, number)?;
+            push(line, "name given twice")
+        }
+        DesignFault::UnknownName { file, line: number } => {
+            push_place(alloc, line, file, number)?;
+            push(line, "unknown name")
+        }
+        DesignFault::NoPosition { .. } => push_node(line, name, "no position"),
+        DesignFault::NoRows => push(line, "no rows"),
+        DesignFault::MixedRows { row } => push_row(alloc, line, row, "mixed rows"),
+        DesignFault::RowsOverlap { row } => push_row(alloc, line, row, "overlaps"),
+        DesignFault::TallCell { .. } => push_node(line, name, "taller than a row"),
+        DesignFault::Limit { kind, number } => push_limit(alloc, line, kind, number),
+    }
+}
+
+/// Appends a quantity past its limit.
+fn push_limit(alloc: Global, line: &mut Vec<u8>, kind: u8, number: u64) -> Result<(), Memory>
+    ensures { OnOk result (line.new.items ≡ line.old.items ++ limit_cause kind number) }
+{
+    let limit = format!(in alloc; "limit {kind} {number}")?;
+    push(line, limit.as_str())
+}
+
+/// Appends the place of a fault: a file's kind and the number of a line.
+fn push_place(alloc: Global, line: &mut Vec<u8>, kind: FileKind, number: u64) -> Result<(), Memory>
+    ensures { OnOk result (line.new.items ≡ line.old.items ++ line_place kind number) }
+{
+    let place = format!(in alloc; "{}:{number}: ", kind_text(kind))?;
+    push(line, place.as_str())
+}
+
+/// Appends what is wrong with a row.
+fn push_row(alloc: Global, line: &mut Vec<u8>, row: u32, wrong: &str) -> Result<(), Memory>
+    ensures { OnOk result (line.new.items ≡ line.old.items ++ row_cause row wrong.now) }
+{
+    let cause = format!(in alloc; "row {row}: {wrong}")?;
+    push(line, cause.as_str())
+}
+
+/// Appends what is wrong with a node.
+fn push_node(line: &mut Vec<u8>, name: &[u8], wrong: &str) -> Result<(), Memory>
+    ensures { OnOk result (line.new.items ≡ line.old.items ++ node_cause name.now wrong.now) }
+{
+    push(line, "node ")?;
+    line.extend_from_slice(name)?;
+    push(line, ": ")?;
+    push(line, wrong)
+}
+
+/// Appends a text.
+fn push(line: &mut Vec<u8>, text: &str) -> Result<(), Memory>
+    ensures { OnOk result (line.new.items ≡ line.old.items ++ text.now) }
+{
+    Ok(line.extend_from_slice(text.as_bytes())?)
+}
+
+/// How a kind of file is printed.
+fn kind_text(kind: FileKind) -> &'static str
+    ensures { result.now ≡ kind_text kind }
+{
+    match kind {
+        FileKind::Aux => "aux",
+        FileKind::Nodes => "nodes",
+        FileKind::Nets => "nets",
+        FileKind::Wts => "wts",
+        FileKind::Pl => "pl",
+        FileKind::Scl => "scl",
+    }
+}
