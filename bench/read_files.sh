@@ -5,7 +5,7 @@ set -eu
 cd "$(dirname "$0")/.."
 work=$(mktemp -d)
 trap 'rm -rf "$work"' EXIT
-rustc -C opt-level=3 -C target-cpu=x86-64-v2 -o "$work/by_hand" bench/read_files.rs 2>"$work/rustc.log" || { cat "$work/rustc.log"; exit 1; }
+rustc --edition 2024 -C opt-level=3 -C target-cpu=x86-64-v2 -o "$work/by_hand" bench/read_files.rs 2>"$work/rustc.log" || { cat "$work/rustc.log"; exit 1; }
 program=crates/files_bench/out/files_bench
 [ -x "$program" ] || (cd crates/files_bench && rt run >/dev/null)
 "$work/by_hand" >"$work/by_hand.txt"

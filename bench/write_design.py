@@ -1,0 +1,35 @@
+#!/usr/bin/env python3
+"""Writes a design of nets of four into a folder: write_design.py FOLDER [NODES], by default 200,000 nodes and as many nets."""
+import sys
+
+folder = sys.argv[1]
+nodes = int(sys.argv[2]) if len(sys.argv) > 2 else 200_000
+terminals = nodes // 100
+rows = 1000
+
+
+def put(kind, lines):
+    with open(f"{folder}/d.{kind}", "w") as file:
+        file.writelines(line + "\n" for line in lines)
+
+
+def name(i):
+    return f"t{i}" if i < terminals else f"o{i}"
+
+
+put("aux", ["RowBasedPlacement : d.nodes d.nets d.wts d.pl d.scl"])
+put("nodes", ["UCLA nodes 1.0", f"NumNodes : {nodes}", f"NumTerminals : {terminals}"]
+    + [f"\t{name(i)}\t{i % 7 + 1}\t12" + ("\tterminal" if i < terminals else "") for i in range(nodes)])
+nets = ["UCLA nets 1.0", f"NumNets : {nodes}", f"NumPins : {4 * nodes}"]
+for i in range(nodes):
+    nets.append(f"NetDegree : 4 n{i}")
+    nets.extend(f"\t{name((i + k * 7919) % nodes)}\tI : {k}.500000\t-0.250000" for k in range(4))
+put("nets", nets)
+put("wts", ["UCLA wts 1.0"] + [f"n{i}\t1" for i in range(0, nodes, 3)])
+put("pl", ["UCLA pl 1.0"] + [f"{name(i)}\t{i % 4001}\t{i % rows * 12}\t: N" + (" /FIXED" if i < terminals else "")
+                              for i in range(nodes)])
+scl = ["UCLA scl 1.0", f"NumRows : {rows}"]
+for r in range(rows):
+    scl.extend(["CoreRow Horizontal", f" Coordinate : {12 * r}", " Height : 12", " Sitewidth : 1", " Sitespacing : 1",
+                " Siteorient : 1", " Sitesymmetry : 1", " SubrowOrigin : 0 NumSites : 4100", "End"])
+put("scl", scl)
