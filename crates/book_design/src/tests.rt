@@ -30,6 +30,21 @@ const A: Texts = Texts {
         Sitewidth : 1\n Sitespacing : 1\n SubrowOrigin : 0 NumSites : 10\nEnd\n",
 };
 
+/// The same with other spellings, an offset, and a second row without sites.
+const A_SPELT_ANEW: Texts = Texts {
+    nodes: b"UCLA nodes 1.0\r\n# a comment\r\nnumnodes: 3\r\nNumTerminals : 2\r\na 2 10\r\n\
+        l 0 0 terminal\r\nr 0 0 terminal\r\n",
+    nets: b"UCLA nets 1.0\r\n# a comment\r\nNumNets : 2\r\nNumPins : 4\r\nNetDegree : 2 n0\r\n\
+        l B : -0.500000 0.0\r\na B\r\nNetDegree : 2 n1\r\na B\r\nr B\r\n",
+    wts: None,
+    pl: b"UCLA pl 1.0\r\n# a comment\r\na 0 0 : N\r\nl 0 5 : N /FIXED\r\n\
+        r 1e+01 5.000000 : n /fixed\r\n",
+    scl: b"UCLA scl 1.0\r\n# a comment\r\nNumRows : 2\r\nCoreRow Horizontal\r\n Coordinate : 0\r\n\
+        Height : 10\r\n Sitewidth : 1\r\n Sitespacing : 1\r\n\
+        SubrowOrigin : 0 NumSites : 10\r\nEnd\r\ncorerow horizontal\r\ncoordinate: 10\r\n\
+        height: 10\r\nsitewidth: 1\r\nsubroworigin: 0 numsites: 0\r\nend\r\n",
+};
+
 /// Two cells, a macro over two rows and pads beside the core.
 const B: Texts = Texts {
     nodes: b"UCLA nodes 1.0\n# design B\n\nNumNodes : 5\nNumTerminals : 3\n\tu\t3\t12\n\tv\t5\t12\n\
@@ -196,8 +211,9 @@ fn the_points_of_a_design_are_told(rt: HostRuntime) {
 /// Texts without a fault, the weights of the two nets, and where node 0 stands, how, and whether it is fixed.
 type Accepted = (Texts<'static>, [u32; 2], i64, i64, Orient, bool);
 
-const ACCEPTED: [Accepted; 11] = [
+const ACCEPTED: [Accepted; 12] = [
     (A, [1, 1], 0, 0, Orient::N, false),
+    (A_SPELT_ANEW, [1, 1], 0, 0, Orient::N, false),
     // the last line of a name counts, in both files
     (
         Texts {
