@@ -1,6 +1,7 @@
 ghost use Rattle.std.specs.Prelude.{IfOk};
 ghost use Rattle.book_outer.specs.Files.{AreNamesDistinct};
 
+use crate::lines::refusal_line;
 use crate::{DesignFault, FileKind, Refusal, Status, TextFault, TextKind, proud};
 use book_outer::{Calls, Files, MemFolder, MemSink, OpenGate, Words};
 use book_text::Memory;
@@ -567,5 +568,14 @@ fn absent_files_are_told(rt: HostRuntime) -> Result<(), Fail> {
         assert!(rt; report.written() == line);
     }
     assert_eq!(rt; Status::Memory.code(), 5);
+    Ok(())
+}
+
+// A file of so many bytes is too large for a test, so its line alone is looked at.
+#[test]
+fn the_line_of_a_file_that_is_too_long(rt: HostRuntime) -> Result<(), Fail> {
+    let line = refusal_line(rt.alloc(), Refusal::TooLong(FileKind::Nets), b"")?;
+    let expected: &[u8] = b"proud: nets: longer than 268435456 bytes\n";
+    assert!(rt; line.as_slice() == expected);
     Ok(())
 }
