@@ -48,7 +48,8 @@ pub fn proud<F: Folder, S: Sink, G: Gate>(
     ensures usage { result ≡ Status.Usage → requested words.now ≡ None }
     ensures only_usage { requested words.now ≡ None → (result ≡ Status.Usage) ⊎ (result ≡ Status.Memory) }
     ensures usage_begins_nothing { requested words.now ≡ None → F.begun folder.new ≡ F.begun folder.old }
-    ensures usage_reads_nothing { requested words.now ≡ None → F.read_faults folder.new ≡ F.read_faults folder.old }
+    ensures usage_misses_nothing { requested words.now ≡ None → F.missed folder.new ≡ F.missed folder.old }
+    ensures usage_reads_nothing { requested words.now ≡ None → (F.reading folder.new ≡ F.reading folder.old) × (F.read_faults folder.new ≡ F.read_faults folder.old) }
     ensures usage_memory { requested words.now ≡ None → result ≡ Status.Memory
         → (n : ℕ) × Appends (S.written report.old) (S.written report.new) (take n usage_line) }
     ensures usage_told { result ≡ Status.Usage
@@ -117,6 +118,8 @@ fn run<F: Folder, S: Sink>(alloc: Global, words: &Words, folder: &mut F, report:
         (record { before = S.faults report.old; now = S.faults report.new })
         (S.written report.old) (S.written report.new) result }
     ensures begun { requested words.now ≡ None → F.begun folder.new ≡ F.begun folder.old }
+    ensures missed { requested words.now ≡ None → F.missed folder.new ≡ F.missed folder.old }
+    ensures reading { requested words.now ≡ None → F.reading folder.new ≡ F.reading folder.old }
     ensures read_faults { requested words.now ≡ None → F.read_faults folder.new ≡ F.read_faults folder.old }
     ensures files { F.files folder.new ≡ F.files folder.old }
     ensures writes { F.write_faults folder.new ≡ F.write_faults folder.old }
