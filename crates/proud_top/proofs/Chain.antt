@@ -24,7 +24,7 @@ use Rattle.proud_top.specs.Request.{beside}
 use Rattle.proud_top.specs.Order.{rank, name_of, place_of, weight_files}
 use Rattle.proud_top.specs.Accepted.{Reads, ReadsWeights, Accepts, IsAccepted, IsReached, IsFaultOf}
 use Rattle.proud_top.specs.Refused.{HasNodeNamed, IsNodeName, node_of_fault}
-use Rattle.proud_top.specs.Counts.{Counts, IsFaultAt}
+use Rattle.proud_top.specs.Counts.{Counts, IsFaultAt, IsLast, last_kind}
 use Rattle.proud_top.specs.Steps.{IsText, BeginsOne, Loads, LoadsWeights, GivesWeights, IsTold, Faults, IsNameIn, Solves}
 use Rattle.proud_top.specs.Stops.{IsStopped, Places}
 use Rattle.proud_top.proofs.Once.{rank_once}
@@ -228,10 +228,20 @@ reached told word name kind names inputs n e before named = record { names = nam
 stop_at : (files : Option (List FileEntry)) (word name : List ℕ) (before mid now : Counts) (kind : FileKind) (names : AuxEntry) (inputs : Files) (n : ℕ) (stop : Stop)
     → Went files before mid n → place_of names kind ≡ suc n → HasBefore files word names inputs kind → name_of word names kind ≡ Some name
     → Loads kind files name mid now (Err stop) → Places files word before now (Err stop)
-stop_at None word name before mid now kind names inputs n (Refused refusal node) w e b named h = (tt, h.2 ∙ w.faults)
+stop_at None word name before mid now kind names inputs n (Refused refusal node) w e b named h = (tt, h.2 ∙ w.faults, tt)
 stop_at (Some told) word name before mid now kind names inputs n (Refused refusal node) w e b named h =
     let P : Refusal → Type 0 = λ r. IsStopped told word r node.items in
-    (subst P (sym h.0) (record { cause = record { name = name; place = suc n; reached = reached told word name kind names inputs n e b named; long = h.1 }; named = tt }), h.2 ∙ w.faults)
+    let L : Refusal → Type 0 = λ r. IsLast told word (last_kind r) before now in (
+      subst P (sym h.0) (record { cause = record { name = name; place = suc n; reached = reached told word name kind names inputs n e b named; long = h.1 }; named = tt }),
+      h.2 ∙ w.faults,
+      subst L (sym h.0) (record {
+        name = name;
+        place = suc n;
+        reached = reached told word name kind names inputs n e b named;
+        grown = begun_more before.begun mid.begun now.begun n w.begun h.3.begun;
+        present = h.3.missed ∙ there_missed told name h.1.text mid.missed h.1.there ∙ w.missed;
+      }),
+    )
 stop_at None word name before mid now kind names inputs n (Unread other) w e b named h =
     let R : ℕ → Type 0 = λ x. Rose x now.faults in
     (tt, subst R w.faults h.2)
@@ -267,19 +277,21 @@ stop_load_weights files of word names inputs start mid now stop alike f h = by_n
 
 -- the text of the file of the kind stopped the run
 stop_text : (files : Option (List FileEntry)) (word name text : List ℕ) (before now : Counts) (kind : FileKind) (names : AuxEntry) (inputs : Files) (stop : Stop)
-    → now.faults ≡ before.faults → (n : ℕ) → place_of names kind ≡ suc n → HasBefore files word names inputs kind → name_of word names kind ≡ Some name
+    → (n : ℕ) → Went files before now (suc n) → place_of names kind ≡ suc n → HasBefore files word names inputs kind → name_of word names kind ≡ Some name
     → IsText files name text → Faults kind text stop → Places files word before now (Err stop)
-stop_text None word name text before now kind names inputs (Refused refusal node) same n e b named held h = (tt, same)
-stop_text (Some told) word name text before now kind names inputs (Refused refusal node) same n e b named held h =
+stop_text None word name text before now kind names inputs (Refused refusal node) n w e b named held h = (tt, w.faults, tt)
+stop_text (Some told) word name text before now kind names inputs (Refused refusal node) n w e b named held h =
+    let L : Refusal → Type 0 = λ r. IsLast told word (last_kind r) before now in
     let P : Refusal → Type 0 = λ r. IsStopped told word r node.items in (
       subst P (sym h.1) (record {
         cause = record { name = name; place = suc n; reached = reached told word name kind names inputs n e b named; text = text; there = held.there; short = held.short; faulty = h.2 };
         named = tt;
       }),
-      same,
+      w.faults,
+      subst L (sym h.1) (record { name = name; place = suc n; reached = reached told word name kind names inputs n e b named; grown = w.begun; present = w.missed }),
     )
-stop_text files word name text before now kind names inputs (Unread other) same n e b named held h = absurd h
-stop_text files word name text before now kind names inputs Memory same n e b named held h = same
+stop_text files word name text before now kind names inputs (Unread other) n w e b named held h = absurd h
+stop_text files word name text before now kind names inputs Memory n w e b named held h = w.faults
 
 pub stop_read : {A I R : Type 0} (kind : FileKind) (grammar : Grammar I R) (view : A → R)
     (files of : Option (List FileEntry)) (word name text : List ℕ) (bytes : Vec ℕ Global) (answer : Result A ReadError)
@@ -291,7 +303,7 @@ stop_read kind grammar view files of word name text bytes answer names inputs st
     let T : Option (List FileEntry) → Type 0 = λ o. IsText o name text in
     let S : List ℕ → Type 0 = λ t. IsText of name t in
     let held : IsText files name text = subst T alike (subst S (sym same) loaded.0) in
-    stop_text files word name text start now kind names inputs stop (loaded.2 ∙ f.went.faults) f.read f.place f.before named held
+    stop_text files word name text start now kind names inputs stop f.read (went_one files of name bytes.items start mid now f.read alike f.went loaded.0 loaded.1 loaded.2) f.place f.before named held
     (given_fault kind grammar view text answer stop conv answers told)
 
 pub stop_read_weights : (files of : Option (List FileEntry)) (word : List ℕ) (bytes : Option (Vec ℕ Global)) (shown : Option (List ℕ))
@@ -307,7 +319,7 @@ stop_read_weights files of word bytes shown names inputs start mid now stop alik
   by_name (Some name) None e l g = absurd l
   by_name (Some name) (Some found) e l g =
       let T : Option (List FileEntry) → Type 0 = λ o. IsText o (beside word name) found.items in
-      stop_text files word (beside word name) found.items start now Wts names inputs stop (l.2 ∙ f.went.faults) f.read f.place f.before (ap (option_map (beside word)) e) (subst T alike l.0) g
+      stop_text files word (beside word name) found.items start now Wts names inputs stop f.read (went_one files of (beside word name) found.items start mid now f.read alike f.went l.0 l.1 l.2) f.place f.before (ap (option_map (beside word)) e) (subst T alike l.0) g
 
 -- all files are accepted
 pub all_read : (files : Option (List FileEntry)) (word : List ℕ) (names : AuxEntry) (inputs : Files)
@@ -322,17 +334,26 @@ all_read (Some told) word names inputs b h = record {
   scl = h;
 }
 
+last_begun : (files : Option (List FileEntry)) (word name : List ℕ) (names : AuxEntry) (inputs : Files) (start now : Counts) (n : ℕ) → place_of names Scl ≡ suc n
+    → HasBefore files word names inputs Scl → name_of word names Scl ≡ Some name → Went files start now (suc n) → IfSome files (λ told. IsLast told word Scl start now)
+last_begun None word name names inputs start now n e b named w = tt
+last_begun (Some told) word name names inputs start now n e b named w =
+    record { name = name; place = suc n; reached = reached told word name Scl names inputs n e b named; grown = w.begun; present = w.missed }
+
 -- the last file was read, so that all are accepted
 pub front_last : {A I : Type 0} (grammar : Grammar I (List RowEntry)) (view : A → List RowEntry)
     (files of : Option (List FileEntry)) (word name text : List ℕ) (bytes : Vec ℕ Global) (answer : Result A ReadError) (records : A)
     (names : AuxEntry) (inputs : Files) (start mid now : Counts)
-    → ((told : List FileEntry) → Reads told name grammar (view records) → IsAccepted told word names inputs Scl) → of ≡ files
+    → ((told : List FileEntry) → Reads told name grammar (view records) → IsAccepted told word names inputs Scl) → of ≡ files → name_of word names Scl ≡ Some name
     → Front files word names inputs Scl start mid → Loads Scl of name mid now (Ok bytes) → text ≡ bytes.items
-    → Answers grammar view text answer → IsTold Scl answer (Ok records) → IfSome files (λ told. Accepts told word names inputs) × (now.faults ≡ start.faults)
-front_last grammar view files of word name text bytes answer records names inputs start mid now accepts alike f loaded same answers told =
+    → Answers grammar view text answer → IsTold Scl answer (Ok records) → IfSome files (λ told. Accepts told word names inputs) × (now.faults ≡ start.faults) × IfSome files (λ told. IsLast told word Scl start now)
+front_last grammar view files of word name text bytes answer records names inputs start mid now accepts alike named f loaded same answers told =
     let T : List ℕ → Type 0 = λ t. IsText of name t in
-    let read = read_one grammar files of name text (view records) alike (subst T (sym same) loaded.0) (given Scl grammar view text answer records answers told) in
-    (all_read files word names inputs f.before (for_told files accepts read), loaded.2 ∙ f.went.faults)
+    let read = read_one grammar files of name text (view records) alike (subst T (sym same) loaded.0) (given Scl grammar view text answer records answers told) in (
+      all_read files word names inputs f.before (for_told files accepts read),
+      loaded.2 ∙ f.went.faults,
+      last_begun files word name names inputs start now f.read f.place f.before named (went_one files of name bytes.items start mid now f.read alike f.went loaded.0 loaded.1 loaded.2),
+    )
 
 name_told : (told : List FileEntry) (word name : List ℕ) (names : AuxEntry) (inputs : Files) (fault : DesignFault)
     → Accepts told word names inputs → IfSome (node_of_fault fault) (IsNameIn inputs.nodes name) → IsNodeName told word (Design fault) name
@@ -343,19 +364,19 @@ name_told told word name names inputs fault a h = by_node (node_of_fault fault) 
 
 -- what the records make ends the run
 pub ends : (files : Option (List FileEntry)) (word : List ℕ) (before now : Counts) (names : AuxEntry) (inputs : Files) (result : Result (Vec ℕ Global) Stop)
-    → IfSome files (λ told. Accepts told word names inputs) → now.faults ≡ before.faults → Solves inputs result → Places files word before now result
-ends files word before now names inputs (Ok text) a same h =
-    (for_told files (λ told accepted. record { names = names; inputs = inputs; accepted = accepted; reported = h }) a, same)
-ends files word before now names inputs (Err (Refused (Design fault) name)) a same h =
-    (for_told files (λ told accepted. record { cause = record { names = names; inputs = inputs; accepted = accepted; faulty = h.faulty }; named = name_told told word name.items names inputs fault accepted h.named }) a, same)
-ends files word before now names inputs (Err (Refused (NotBuilt Nets) name)) a same h =
-    (for_told files (λ told accepted. record { cause = record { names = names; inputs = inputs; design = h.design; accepted = accepted; joined = h.joined; unbuilt = h.unbuilt }; named = tt }) a, same)
-ends files word before now names inputs (Err (Refused (NotBuilt Aux) name)) a same h = absurd h
-ends files word before now names inputs (Err (Refused (NotBuilt Nodes) name)) a same h = absurd h
-ends files word before now names inputs (Err (Refused (NotBuilt Wts) name)) a same h = absurd h
-ends files word before now names inputs (Err (Refused (NotBuilt Pl) name)) a same h = absurd h
-ends files word before now names inputs (Err (Refused (NotBuilt Scl) name)) a same h = absurd h
-ends files word before now names inputs (Err (Refused (TooLong kind) name)) a same h = absurd h
-ends files word before now names inputs (Err (Refused (Text kind fault) name)) a same h = absurd h
-ends files word before now names inputs (Err (Unread kind)) a same h = absurd h
-ends files word before now names inputs (Err Memory) a same h = same
+    → IfSome files (λ told. Accepts told word names inputs) → now.faults ≡ before.faults → IfSome files (λ told. IsLast told word Scl before now) → Solves inputs result → Places files word before now result
+ends files word before now names inputs (Ok text) a same last h =
+    (for_told files (λ told accepted. record { names = names; inputs = inputs; accepted = accepted; reported = h }) a, same, last)
+ends files word before now names inputs (Err (Refused (Design fault) name)) a same last h =
+    (for_told files (λ told accepted. record { cause = record { names = names; inputs = inputs; accepted = accepted; faulty = h.faulty }; named = name_told told word name.items names inputs fault accepted h.named }) a, same, last)
+ends files word before now names inputs (Err (Refused (NotBuilt Nets) name)) a same last h =
+    (for_told files (λ told accepted. record { cause = record { names = names; inputs = inputs; design = h.design; accepted = accepted; joined = h.joined; unbuilt = h.unbuilt }; named = tt }) a, same, last)
+ends files word before now names inputs (Err (Refused (NotBuilt Aux) name)) a same last h = absurd h
+ends files word before now names inputs (Err (Refused (NotBuilt Nodes) name)) a same last h = absurd h
+ends files word before now names inputs (Err (Refused (NotBuilt Wts) name)) a same last h = absurd h
+ends files word before now names inputs (Err (Refused (NotBuilt Pl) name)) a same last h = absurd h
+ends files word before now names inputs (Err (Refused (NotBuilt Scl) name)) a same last h = absurd h
+ends files word before now names inputs (Err (Refused (TooLong kind) name)) a same last h = absurd h
+ends files word before now names inputs (Err (Refused (Text kind fault) name)) a same last h = absurd h
+ends files word before now names inputs (Err (Unread kind)) a same last h = absurd h
+ends files word before now names inputs (Err Memory) a same last h = same

@@ -5,6 +5,7 @@ use Rattle.std.specs.Io.KnownBytes.{Appends}
 use Rattle.book_outer.specs.Cause.{Rose}
 use Rattle.book_outer.specs.Files.{FileEntry}
 use Rattle.book_files.specs.declared.records.FileKind.{FileKind}
+use Rattle.book_files.specs.declared.records.FileKind.TheVariants.{Scl}
 use Rattle.book_files.specs.Entries.{AuxEntry}
 use Rattle.book_design.specs.Files.{Files}
 use Rattle.book_design.specs.Values.{DesignValue}
@@ -17,7 +18,7 @@ use Rattle.proud_top.specs.Lines.{cannot_read_line, refusal_line}
 use Rattle.proud_top.specs.Request.{requested}
 use Rattle.proud_top.specs.Accepted.{Accepts}
 use Rattle.proud_top.specs.Refused.{IsRefused, IsRefusedAs}
-use Rattle.proud_top.specs.Counts.{Counts, IsFaultAt}
+use Rattle.proud_top.specs.Counts.{Counts, IsFaultAt, IsLast, last_kind}
 use Rattle.proud_top.specs.Stops.{IsReportOf, IsStopped}
 use Rattle.proud_top.specs.Answers.{IsReport, GotDueFront}
 use Rattle.proud_top.specs.Answers.IsDue.{unread, refused, report}
@@ -39,12 +40,12 @@ asked : (words : List (List ℕ)) (word : List ℕ) → requested words ≡ Some
 asked words word e none = none_is_not_some word (sym none ∙ e)
 
 pub refusal_told : (files : Option (List FileEntry)) (words : List (List ℕ)) (word name : List ℕ) (before now : Counts) (faults : Change) (old new : Option (List ℕ)) (refusal : Refusal) (status : Status)
-    → requested words ≡ Some word → IfSome files (λ told. IsStopped told word refusal name) → now.faults ≡ before.faults
+    → requested words ≡ Some word → IfSome files (λ told. IsStopped told word refusal name) → now.faults ≡ before.faults → IfSome files (λ told. IsLast told word (last_kind refusal) before now)
     → Tells (Refused refusal) (refusal_line refusal name) faults old new status → Outcome files words before now faults old new status
-refusal_told files words word name before now faults old new refusal status e h same (inl told) =
+refusal_told files words word name before now faults old new refusal status e h same last (inl told) =
     let P : Status → Type 0 = Outcome files words before now faults old new in
-    subst P (sym told.0) (asked words word e, for_told files (λ x u. (word, e, u.cause)) h, same, record { name = name; got = told.1; named = for_told files (λ x u. (word, e, u.named)) h })
-refusal_told files words word name before now faults old new refusal status e h same (inr short) =
+    subst P (sym told.0) (asked words word e, for_told files (λ x u. (word, e, u.cause)) h, same, record { name = name; got = told.1; named = for_told files (λ x u. (word, e, u.named)) h }, for_told files (λ x u. (word, e, u)) last)
+refusal_told files words word name before now faults old new refusal status e h same last (inr short) =
     let P : Status → Type 0 = Outcome files words before now faults old new in
     subst P (sym short.0) (for_told files (λ x u. inr (refusal_line refusal name, refused refusal name (word, e, u.cause) (word, e, u.named) refl, short.1)) h, λ none. absurd (asked words word e none))
 
@@ -76,14 +77,14 @@ is_report files words word text e h = record {
 }
 
 pub report_put : (files : Option (List FileEntry)) (words : List (List ℕ)) (word text : List ℕ) (before now : Counts) (faults : Change) (old new : Option (List ℕ)) (status : Status)
-    → requested words ≡ Some word → IfSome files (λ told. IsReportOf told word text) → now.faults ≡ before.faults
+    → requested words ≡ Some word → IfSome files (λ told. IsReportOf told word text) → now.faults ≡ before.faults → IfSome files (λ told. IsLast told word Scl before now)
     → PutsReport text faults old new status → Outcome files words before now faults old new status
-report_put files words word text before now faults old new Done e h same put = (asked words word e, for_told files (λ x r. (text, is_report x words word text e r, put.0)) h, same, put.1)
-report_put files words word text before now faults old new WriteFault e h same put = (asked words word e, for_told files (λ x r. (text, is_report x words word text e r, put.1.0, put.1.1)) h, same, put.0)
-report_put files words word text before now faults old new Memory e h same put = (for_told files (λ x r. inr (text, report (is_report x words word text e r), put)) h, λ none. absurd (asked words word e none))
-report_put files words word text before now faults old new Usage e h same put = absurd put
-report_put files words word text before now faults old new (Refused refusal) e h same put = absurd put
-report_put files words word text before now faults old new (ReadFault kind) e h same put = absurd put
+report_put files words word text before now faults old new Done e h same last put = (asked words word e, for_told files (λ x r. (text, is_report x words word text e r, put.0)) h, same, put.1, for_told files (λ x u. (word, e, u)) last)
+report_put files words word text before now faults old new WriteFault e h same last put = (asked words word e, for_told files (λ x r. (text, is_report x words word text e r, put.1.0, put.1.1)) h, same, put.0, for_told files (λ x u. (word, e, u)) last)
+report_put files words word text before now faults old new Memory e h same last put = (for_told files (λ x r. inr (text, report (is_report x words word text e r), put)) h, λ none. absurd (asked words word e none))
+report_put files words word text before now faults old new Usage e h same last put = absurd put
+report_put files words word text before now faults old new (Refused refusal) e h same last put = absurd put
+report_put files words word text before now faults old new (ReadFault kind) e h same last put = absurd put
 
 append_none : (xs : List ℕ) → xs ++ [] ≡ xs
 append_none [] = refl

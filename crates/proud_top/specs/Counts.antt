@@ -2,6 +2,9 @@
 use Rattle.std.specs.Prelude.{◌≡◌, ℕ, ◌+◌, ◌-◌, ◌^◌, min, List, IsSome, Some}
 use Rattle.book_outer.specs.Files.{FileEntry, content}
 use Rattle.book_files.specs.declared.records.FileKind.{FileKind}
+use Rattle.book_files.specs.declared.records.FileKind.TheVariants.{Scl}
+use Rattle.proud_top.specs.declared.status.Refusal.{Refusal}
+use Rattle.proud_top.specs.declared.status.Refusal.TheVariants.{TooLong, Text, Design, NotBuilt}
 use Rattle.proud_top.specs.Request.{requested}
 use Rattle.proud_top.specs.Accepted.{IsReached}
 
@@ -23,3 +26,23 @@ pub record IsFaultAt (files : List FileEntry) (word : List ℕ) (kind : FileKind
 -- the same of the design that the words of the command line name
 abbrev pub IsFaultPlace : List FileEntry → List (List ℕ) → FileKind → Counts → Counts → Type 0
 IsFaultPlace files words kind before now = (word : List ℕ) × (requested words ≡ Some word) × IsFaultAt files word kind before now
+
+-- The file of the kind was the last to be begun: that file was to be read, as many files were begun as its place says, unless the
+-- count stands at the greatest u64, and none was absent.
+pub record IsLast (files : List FileEntry) (word : List ℕ) (kind : FileKind) (before now : Counts) : Type 0 where
+  pub name : List ℕ
+  pub place : ℕ
+  pub reached : IsReached files word kind name place
+  pub grown : now.begun ≡ min (before.begun + place) (2 ^ 64 - 1)
+  pub present : now.missed ≡ before.missed
+
+-- the same of the design that the words of the command line name
+abbrev pub IsLastBegun : List FileEntry → List (List ℕ) → FileKind → Counts → Counts → Type 0
+IsLastBegun files words kind before now = (word : List ℕ) × (requested words ≡ Some word) × IsLast files word kind before now
+
+-- the last file that is begun before a refusal
+abbrev pub last_kind : Refusal → FileKind
+last_kind (TooLong kind) = kind
+last_kind (Text kind fault) = kind
+last_kind (Design fault) = Scl
+last_kind (NotBuilt kind) = Scl

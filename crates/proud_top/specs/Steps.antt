@@ -43,7 +43,7 @@ pub record BeginsOne (files : Option (List FileEntry)) (name : List ℕ) (before
 -- or want of memory. The count of faults is as before at any other answer than a fault.
 abbrev pub Loads : FileKind → Option (List FileEntry) → List ℕ → Counts → Counts → Result (Vec ℕ Global) Stop → Type 0
 Loads kind files name before now (Ok bytes) = IsText files name bytes.items × BeginsOne files name before now × (now.faults ≡ before.faults)
-Loads kind files name before now (Err (Refused refusal node)) = (refusal ≡ TooLong kind) × IfSome files (λ told. HasLongText told name) × (now.faults ≡ before.faults)
+Loads kind files name before now (Err (Refused refusal node)) = (refusal ≡ TooLong kind) × IfSome files (λ told. HasLongText told name) × (now.faults ≡ before.faults) × BeginsOne files name before now
 Loads kind files name before now (Err (Unread other)) = (other ≡ kind) × BeginsOne files name before now × Rose before.faults now.faults
 Loads kind files name before now (Err Memory) = now.faults ≡ before.faults
 

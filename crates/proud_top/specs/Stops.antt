@@ -4,6 +4,7 @@ use Rattle.std.specs.declared.alloc.Global.{Global}
 use Rattle.book_outer.specs.Cause.{Rose}
 use Rattle.book_outer.specs.Files.{FileEntry}
 use Rattle.relax_system.specs.Extremal.{IsLeast, IsGreatest}
+use Rattle.book_files.specs.declared.records.FileKind.TheVariants.{Scl}
 use Rattle.book_files.specs.Entries.{AuxEntry}
 use Rattle.book_design.specs.Files.{Files}
 use Rattle.book_design.specs.Values.{DesignValue}
@@ -15,7 +16,7 @@ use Rattle.proud_top.specs.declared.stop.Stop.TheVariants.{Refused, Unread, Memo
 use Rattle.proud_top.specs.Report.{report_of}
 use Rattle.proud_top.specs.Accepted.{Accepts}
 use Rattle.proud_top.specs.Refused.{IsRefusedAs, IsNodeName}
-use Rattle.proud_top.specs.Counts.{Counts, IsFaultAt}
+use Rattle.proud_top.specs.Counts.{Counts, IsFaultAt, IsLast, last_kind}
 
 -- the text is the report of the design, with the least and the greatest vector of its system
 pub record IsDesignReport (design : DesignValue) (text : List ℕ) : Type 0 where
@@ -47,7 +48,7 @@ pub record IsStopped (files : List FileEntry) (word : List ℕ) (refusal : Refus
 -- The report of what the files make; or why they are refused; or at which file a fault stands. The count of read faults stands
 -- still at any other answer than a fault.
 abbrev pub Places : Option (List FileEntry) → List ℕ → Counts → Counts → Result (Vec ℕ Global) Stop → Type 0
-Places files word before now (Ok text) = IfSome files (λ told. IsReportOf told word text.items) × (now.faults ≡ before.faults)
-Places files word before now (Err (Refused refusal name)) = IfSome files (λ told. IsStopped told word refusal name.items) × (now.faults ≡ before.faults)
+Places files word before now (Ok text) = IfSome files (λ told. IsReportOf told word text.items) × (now.faults ≡ before.faults) × IfSome files (λ told. IsLast told word Scl before now)
+Places files word before now (Err (Refused refusal name)) = IfSome files (λ told. IsStopped told word refusal name.items) × (now.faults ≡ before.faults) × IfSome files (λ told. IsLast told word (last_kind refusal) before now)
 Places files word before now (Err (Unread kind)) = IfSome files (λ told. IsFaultAt told word kind before now) × Rose before.faults now.faults
 Places files word before now (Err Memory) = now.faults ≡ before.faults

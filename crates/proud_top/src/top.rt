@@ -13,7 +13,7 @@ ghost use Rattle.proud_top.specs.Lines.{usage_line, cannot_read_line, refusal_li
 ghost use Rattle.proud_top.specs.Request.{requested};
 ghost use Rattle.proud_top.specs.Accepted.{Accepts};
 ghost use Rattle.proud_top.specs.Refused.{IsRefused};
-ghost use Rattle.proud_top.specs.Counts.{Counts, IsFaultPlace};
+ghost use Rattle.proud_top.specs.Counts.{Counts, IsFaultPlace, IsLastBegun, last_kind};
 ghost use Rattle.proud_top.specs.Outcome.{Outcome, Tells, PutsReport};
 ghost use Rattle.proud_top.specs.Answers.{GotReport, GotReportFront, GotLine, GotRefusal, GotDueFront};
 
@@ -42,6 +42,9 @@ pub fn proud<F: Folder, S: Sink, G: Gate>(
     ensures done { result ≡ Status.Done → IfSome (F.files folder.old) (λ files.
         GotReport files words.now (S.written report.old) (S.written report.new)) }
     ensures calm_reads { result ≡ Status.Done → F.read_faults folder.new ≡ F.read_faults folder.old }
+    ensures done_begun { result ≡ Status.Done → IfSome (F.files folder.old) (λ files. IsLastBegun files words.now FileKind.Scl
+        (record { begun = F.begun folder.old; missed = F.missed folder.old; faults = F.read_faults folder.old })
+        (record { begun = F.begun folder.new; missed = F.missed folder.new; faults = F.read_faults folder.new })) }
     ensures calm_report { result ≡ Status.Done → S.faults report.new ≡ S.faults report.old }
 
     // Usage comes exactly where the words have another form. Nothing is read then.
@@ -76,11 +79,18 @@ pub fn proud<F: Folder, S: Sink, G: Gate>(
         → (result ≡ Status.Refused refusal) ⊎ (result ≡ Status.Memory) }
     ensures refused_told { (refusal : Refusal) → result ≡ Status.Refused refusal
         → GotRefusal (F.files folder.old) words.now refusal (S.faults report.old) (S.faults report.new) (S.written report.old) (S.written report.new) }
+    ensures refused_begun { (refusal : Refusal) → result ≡ Status.Refused refusal
+        → IfSome (F.files folder.old) (λ files. IsLastBegun files words.now (last_kind refusal)
+        (record { begun = F.begun folder.old; missed = F.missed folder.old; faults = F.read_faults folder.old })
+        (record { begun = F.begun folder.new; missed = F.missed folder.new; faults = F.read_faults folder.new })) }
     ensures calm_refusal { (refusal : Refusal) → result ≡ Status.Refused refusal
         → F.read_faults folder.new ≡ F.read_faults folder.old }
 
     // WriteFault comes only where the report's count of faults rose. The report got a front of its text.
     ensures write_fault { result ≡ Status.WriteFault → Rose (S.faults report.old) (S.faults report.new) }
+    ensures write_fault_begun { result ≡ Status.WriteFault → IfSome (F.files folder.old) (λ files. IsLastBegun files words.now FileKind.Scl
+        (record { begun = F.begun folder.old; missed = F.missed folder.old; faults = F.read_faults folder.old })
+        (record { begun = F.begun folder.new; missed = F.missed folder.new; faults = F.read_faults folder.new })) }
     ensures calm_write { result ≡ Status.WriteFault → F.read_faults folder.new ≡ F.read_faults folder.old }
     ensures write_fault_told { result ≡ Status.WriteFault → IfSome (F.files folder.old) (λ files.
         GotReportFront files words.now (S.written report.old) (S.written report.new)) }

@@ -258,8 +258,8 @@ returns-clause-places g c =
     let f5 = front_next Pl Scl places_grammar (λ (file : List PlaceEntry). file) files (g.F.Folder.files c.load_weights.new.folder) word (beside word names.pl) c.deref-4.result.now c.in_ok-place_text.place_text c.read_pl.result c.in_ok-places.places names inputs start _ _ refl (let e : 5 + weight_files names.wts ≡ suc (4 + weight_files names.wts) = omega arith in e) (λ told h. h)
     (c.load_weights.ensures.files ∙ c.load_beside-2.ensures.files ∙ c.load_beside.ensures.files ∙ c.load_as.ensures.files) f4 c.in_ok-place_text.ensures.answer c.deref-4.ensures.value c.read_pl.ensures.reading c.in_ok-places.ensures in
     let last = front_last rows_grammar (λ (file : List RowEntry). file) files (g.F.Folder.files c.load_beside-3.new.folder) word (beside word names.scl) c.deref-5.result.now c.in_ok-row_text.row_text c.read_scl.result c.in_ok-rows.rows names inputs start _ _ (λ told h. h)
-    (c.load_beside-3.ensures.files ∙ c.load_weights.ensures.files ∙ c.load_beside-2.ensures.files ∙ c.load_beside.ensures.files ∙ c.load_as.ensures.files) f5 c.in_ok-row_text.ensures.answer c.deref-5.ensures.value c.read_scl.ensures.reading c.in_ok-rows.ensures in
+    (c.load_beside-3.ensures.files ∙ c.load_weights.ensures.files ∙ c.load_beside-2.ensures.files ∙ c.load_beside.ensures.files ∙ c.load_as.ensures.files) refl f5 c.in_ok-row_text.ensures.answer c.deref-5.ensures.value c.read_scl.ensures.reading c.in_ok-rows.ensures in
     let given : Files = record { nodes = c.in_ok-nodes.nodes; nets = c.in_ok-nets.nets; weights = option_map (λ w. w.now) c.as_ref.result; places = c.in_ok-places.places; rows = c.in_ok-rows.rows } in
     let same : given ≡ inputs = same_files given inputs refl refl c.as_ref.ensures.value refl refl in
     let P : Files → Type 0 = λ x. Solves x c.solved.result in
-    ends files word start _ names inputs c.solved.result last.0 last.1 (subst P same c.solved.ensures)
+    ends files word start _ names inputs c.solved.result last.0 last.1 last.2 (subst P same c.solved.ensures)

@@ -2,12 +2,12 @@ use Rattle.proud_top.proofs.Outcomes.{refusal_told, fault_told, report_put, noth
 use Rattle.proud_top.proofs.top.run.Goals as goal
 
 pub returns-in-Ok-clause-outcome : goal.returns-in-Ok-clause-outcome
-returns-in-Ok-clause-outcome g c = report_put _ _ _ c.in-Ok.text.items _ _ _ _ _ _ c.in-Some.ensures c.in-Ok.ensures.places.0 c.in-Ok.ensures.places.1 (rw c.deref.ensures.value at c.put_report.ensures)
+returns-in-Ok-clause-outcome g c = report_put _ _ _ c.in-Ok.text.items _ _ _ _ _ _ c.in-Some.ensures c.in-Ok.ensures.places.0 c.in-Ok.ensures.places.1 c.in-Ok.ensures.places.2 (rw c.deref.ensures.value at c.put_report.ensures)
 
 pub returns-in-Err-Refused-clause-outcome : goal.returns-in-Err-Refused-clause-outcome
 returns-in-Err-Refused-clause-outcome g c =
     let places = rw c.in-Err-Refused.field-0-is at c.in-Err-Refused.ensures.places in
-    refusal_told _ _ _ c.in-Err-Refused.name.items _ _ _ _ _ c.in-Err-Refused.refusal _ c.in-Some.ensures places.0 places.1 (rw c.deref-in-Err-Refused.ensures.value at c.tell_refusal.ensures)
+    refusal_told _ _ _ c.in-Err-Refused.name.items _ _ _ _ _ c.in-Err-Refused.refusal _ c.in-Some.ensures places.0 places.1 places.2 (rw c.deref-in-Err-Refused.ensures.value at c.tell_refusal.ensures)
 
 pub returns-in-Err-Unread-clause-outcome : goal.returns-in-Err-Unread-clause-outcome
 returns-in-Err-Unread-clause-outcome g c =
