@@ -23,7 +23,7 @@ use Rattle.proud_top.specs.declared.stop.Stop.TheVariants.{Unread, Refused, Memo
 use Rattle.proud_top.specs.Request.{beside}
 use Rattle.proud_top.specs.Order.{rank, name_of, place_of, weight_files}
 use Rattle.proud_top.specs.Accepted.{Reads, ReadsWeights, Accepts, IsAccepted, IsReached, IsFaultOf}
-use Rattle.proud_top.specs.Refused.{HasNodeNamed, IsNodeName, node_of_fault}
+use Rattle.proud_top.specs.Refused.{HasNodeNamed, IsNodeName, IsOfNets, node_of_fault}
 use Rattle.proud_top.specs.Counts.{Counts, IsFaultAt, IsLast, last_kind}
 use Rattle.proud_top.specs.Steps.{IsText, BeginsOne, Loads, LoadsWeights, GivesWeights, IsTold, Faults, IsNameIn, Solves}
 use Rattle.proud_top.specs.Stops.{IsStopped, Places}
@@ -228,9 +228,11 @@ reached told word name kind names inputs n e before named = record { names = nam
 stop_at : (files : Option (List FileEntry)) (word name : List ℕ) (before mid now : Counts) (kind : FileKind) (names : AuxEntry) (inputs : Files) (n : ℕ) (stop : Stop)
     → Went files before mid n → place_of names kind ≡ suc n → HasBefore files word names inputs kind → name_of word names kind ≡ Some name
     → Loads kind files name mid now (Err stop) → Places files word before now (Err stop)
-stop_at None word name before mid now kind names inputs n (Refused refusal node) w e b named h = (tt, h.2 ∙ w.faults, tt)
+stop_at None word name before mid now kind names inputs n (Refused refusal node) w e b named h =
+    let N : Refusal → Type 0 = IsOfNets in (tt, h.2 ∙ w.faults, tt, subst N (sym h.0) tt)
 stop_at (Some told) word name before mid now kind names inputs n (Refused refusal node) w e b named h =
     let P : Refusal → Type 0 = λ r. IsStopped told word r node.items in
+    let N : Refusal → Type 0 = IsOfNets in
     let L : Refusal → Type 0 = λ r. IsLast told word (last_kind r) before now in (
       subst P (sym h.0) (record { cause = record { name = name; place = suc n; reached = reached told word name kind names inputs n e b named; long = h.1 }; named = tt }),
       h.2 ∙ w.faults,
@@ -241,6 +243,7 @@ stop_at (Some told) word name before mid now kind names inputs n (Refused refusa
         grown = begun_more before.begun mid.begun now.begun n w.begun h.3.begun;
         present = h.3.missed ∙ there_missed told name h.1.text mid.missed h.1.there ∙ w.missed;
       }),
+      subst N (sym h.0) tt,
     )
 stop_at None word name before mid now kind names inputs n (Unread other) w e b named h =
     let R : ℕ → Type 0 = λ x. Rose x now.faults in
@@ -279,8 +282,10 @@ stop_load_weights files of word names inputs start mid now stop alike f h = by_n
 stop_text : (files : Option (List FileEntry)) (word name text : List ℕ) (before now : Counts) (kind : FileKind) (names : AuxEntry) (inputs : Files) (stop : Stop)
     → (n : ℕ) → Went files before now (suc n) → place_of names kind ≡ suc n → HasBefore files word names inputs kind → name_of word names kind ≡ Some name
     → IsText files name text → Faults kind text stop → Places files word before now (Err stop)
-stop_text None word name text before now kind names inputs (Refused refusal node) n w e b named held h = (tt, w.faults, tt)
+stop_text None word name text before now kind names inputs (Refused refusal node) n w e b named held h =
+    let N : Refusal → Type 0 = IsOfNets in (tt, w.faults, tt, subst N (sym h.1) tt)
 stop_text (Some told) word name text before now kind names inputs (Refused refusal node) n w e b named held h =
+    let N : Refusal → Type 0 = IsOfNets in
     let L : Refusal → Type 0 = λ r. IsLast told word (last_kind r) before now in
     let P : Refusal → Type 0 = λ r. IsStopped told word r node.items in (
       subst P (sym h.1) (record {
@@ -289,6 +294,7 @@ stop_text (Some told) word name text before now kind names inputs (Refused refus
       }),
       w.faults,
       subst L (sym h.1) (record { name = name; place = suc n; reached = reached told word name kind names inputs n e b named; grown = w.begun; present = w.missed }),
+      subst N (sym h.1) tt,
     )
 stop_text files word name text before now kind names inputs (Unread other) n w e b named held h = absurd h
 stop_text files word name text before now kind names inputs Memory n w e b named held h = w.faults
@@ -368,9 +374,9 @@ pub ends : (files : Option (List FileEntry)) (word : List ℕ) (before now : Cou
 ends files word before now names inputs (Ok text) a same last h =
     (for_told files (λ told accepted. record { names = names; inputs = inputs; accepted = accepted; reported = h }) a, same, last)
 ends files word before now names inputs (Err (Refused (Design fault) name)) a same last h =
-    (for_told files (λ told accepted. record { cause = record { names = names; inputs = inputs; accepted = accepted; faulty = h.faulty }; named = name_told told word name.items names inputs fault accepted h.named }) a, same, last)
+    (for_told files (λ told accepted. record { cause = record { names = names; inputs = inputs; accepted = accepted; faulty = h.faulty }; named = name_told told word name.items names inputs fault accepted h.named }) a, same, last, tt)
 ends files word before now names inputs (Err (Refused (NotBuilt Nets) name)) a same last h =
-    (for_told files (λ told accepted. record { cause = record { names = names; inputs = inputs; design = h.design; accepted = accepted; joined = h.joined; unbuilt = h.unbuilt }; named = tt }) a, same, last)
+    (for_told files (λ told accepted. record { cause = record { names = names; inputs = inputs; design = h.design; accepted = accepted; joined = h.joined; unbuilt = h.unbuilt }; named = tt }) a, same, last, refl)
 ends files word before now names inputs (Err (Refused (NotBuilt Aux) name)) a same last h = absurd h
 ends files word before now names inputs (Err (Refused (NotBuilt Nodes) name)) a same last h = absurd h
 ends files word before now names inputs (Err (Refused (NotBuilt Wts) name)) a same last h = absurd h

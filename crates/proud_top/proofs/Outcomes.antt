@@ -17,7 +17,7 @@ use Rattle.proud_top.specs.declared.status.Status.TheVariants.{Done, Usage, Refu
 use Rattle.proud_top.specs.Lines.{cannot_read_line, refusal_line}
 use Rattle.proud_top.specs.Request.{requested}
 use Rattle.proud_top.specs.Accepted.{Accepts}
-use Rattle.proud_top.specs.Refused.{IsRefused, IsRefusedAs}
+use Rattle.proud_top.specs.Refused.{IsRefused, IsRefusedAs, IsOfNets}
 use Rattle.proud_top.specs.Counts.{Counts, IsFaultAt, IsLast, last_kind}
 use Rattle.proud_top.specs.Stops.{IsReportOf, IsStopped}
 use Rattle.proud_top.specs.Answers.{IsReport, GotDueFront}
@@ -40,12 +40,12 @@ asked : (words : List (List ℕ)) (word : List ℕ) → requested words ≡ Some
 asked words word e none = none_is_not_some word (sym none ∙ e)
 
 pub refusal_told : (files : Option (List FileEntry)) (words : List (List ℕ)) (word name : List ℕ) (before now : Counts) (faults : Change) (old new : Option (List ℕ)) (refusal : Refusal) (status : Status)
-    → requested words ≡ Some word → IfSome files (λ told. IsStopped told word refusal name) → now.faults ≡ before.faults → IfSome files (λ told. IsLast told word (last_kind refusal) before now)
+    → requested words ≡ Some word → IfSome files (λ told. IsStopped told word refusal name) → now.faults ≡ before.faults → IfSome files (λ told. IsLast told word (last_kind refusal) before now) → IsOfNets refusal
     → Tells (Refused refusal) (refusal_line refusal name) faults old new status → Outcome files words before now faults old new status
-refusal_told files words word name before now faults old new refusal status e h same last (inl told) =
+refusal_told files words word name before now faults old new refusal status e h same last nets (inl told) =
     let P : Status → Type 0 = Outcome files words before now faults old new in
-    subst P (sym told.0) (asked words word e, for_told files (λ x u. (word, e, u.cause)) h, same, record { name = name; got = told.1; named = for_told files (λ x u. (word, e, u.named)) h }, for_told files (λ x u. (word, e, u)) last)
-refusal_told files words word name before now faults old new refusal status e h same last (inr short) =
+    subst P (sym told.0) (asked words word e, for_told files (λ x u. (word, e, u.cause)) h, same, record { name = name; got = told.1; named = for_told files (λ x u. (word, e, u.named)) h }, for_told files (λ x u. (word, e, u)) last, nets)
+refusal_told files words word name before now faults old new refusal status e h same last nets (inr short) =
     let P : Status → Type 0 = Outcome files words before now faults old new in
     subst P (sym short.0) (for_told files (λ x u. inr (refusal_line refusal name, refused refusal name (word, e, u.cause) (word, e, u.named) refl, short.1)) h, λ none. absurd (asked words word e none))
 

@@ -101,3 +101,10 @@ IsNodeName files word refusal name = IfSome (node_of refusal) (λ number. HasNod
 -- the same of the design that the words of the command line name
 abbrev pub IsNodeNameOf : List FileEntry → List (List ℕ) → Refusal → List ℕ → Type 0
 IsNodeNameOf files words refusal name = (word : List ℕ) × (requested words ≡ Some word) × IsNodeName files word refusal name
+
+-- Only nets may be what isn't built yet. This holds where the files aren't told, too.
+abbrev pub IsOfNets : Refusal → Type 0
+IsOfNets (TooLong kind) = Unit {0}
+IsOfNets (Text kind fault) = Unit {0}
+IsOfNets (Design fault) = Unit {0}
+IsOfNets (NotBuilt kind) = kind ≡ Nets

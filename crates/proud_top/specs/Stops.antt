@@ -15,7 +15,7 @@ use Rattle.proud_top.specs.declared.stop.Stop.{Stop}
 use Rattle.proud_top.specs.declared.stop.Stop.TheVariants.{Refused, Unread, Memory}
 use Rattle.proud_top.specs.Report.{report_of}
 use Rattle.proud_top.specs.Accepted.{Accepts}
-use Rattle.proud_top.specs.Refused.{IsRefusedAs, IsNodeName}
+use Rattle.proud_top.specs.Refused.{IsRefusedAs, IsNodeName, IsOfNets}
 use Rattle.proud_top.specs.Counts.{Counts, IsFaultAt, IsLast, last_kind}
 
 -- the text is the report of the design, with the least and the greatest vector of its system
@@ -49,6 +49,6 @@ pub record IsStopped (files : List FileEntry) (word : List ℕ) (refusal : Refus
 -- still at any other answer than a fault.
 abbrev pub Places : Option (List FileEntry) → List ℕ → Counts → Counts → Result (Vec ℕ Global) Stop → Type 0
 Places files word before now (Ok text) = IfSome files (λ told. IsReportOf told word text.items) × (now.faults ≡ before.faults) × IfSome files (λ told. IsLast told word Scl before now)
-Places files word before now (Err (Refused refusal name)) = IfSome files (λ told. IsStopped told word refusal name.items) × (now.faults ≡ before.faults) × IfSome files (λ told. IsLast told word (last_kind refusal) before now)
+Places files word before now (Err (Refused refusal name)) = IfSome files (λ told. IsStopped told word refusal name.items) × (now.faults ≡ before.faults) × IfSome files (λ told. IsLast told word (last_kind refusal) before now) × IsOfNets refusal
 Places files word before now (Err (Unread kind)) = IfSome files (λ told. IsFaultAt told word kind before now) × Rose before.faults now.faults
 Places files word before now (Err Memory) = now.faults ≡ before.faults

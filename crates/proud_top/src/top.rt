@@ -12,7 +12,7 @@ ghost use Rattle.proud_top.specs.declared.status.Refusal.{Refusal};
 ghost use Rattle.proud_top.specs.Lines.{usage_line, cannot_read_line, refusal_line};
 ghost use Rattle.proud_top.specs.Request.{requested};
 ghost use Rattle.proud_top.specs.Accepted.{Accepts};
-ghost use Rattle.proud_top.specs.Refused.{IsRefused};
+ghost use Rattle.proud_top.specs.Refused.{IsRefused, IsOfNets};
 ghost use Rattle.proud_top.specs.Counts.{Counts, IsFaultPlace, IsLastBegun, last_kind};
 ghost use Rattle.proud_top.specs.Outcome.{Outcome, Tells, PutsReport};
 ghost use Rattle.proud_top.specs.Answers.{GotReport, GotReportFront, GotLine, GotRefusal, GotDueFront};
@@ -79,6 +79,7 @@ pub fn proud<F: Folder, S: Sink, G: Gate>(
         → (result ≡ Status.Refused refusal) ⊎ (result ≡ Status.Memory) }
     ensures refused_told { (refusal : Refusal) → result ≡ Status.Refused refusal
         → GotRefusal (F.files folder.old) words.now refusal (S.faults report.old) (S.faults report.new) (S.written report.old) (S.written report.new) }
+    ensures of_nets { (refusal : Refusal) → result ≡ Status.Refused refusal → IsOfNets refusal }
     ensures refused_begun { (refusal : Refusal) → result ≡ Status.Refused refusal
         → IfSome (F.files folder.old) (λ files. IsLastBegun files words.now (last_kind refusal)
         (record { begun = F.begun folder.old; missed = F.missed folder.old; faults = F.read_faults folder.old })
