@@ -372,7 +372,7 @@ name_told told word name names inputs fault a h = by_node (node_of_fault fault) 
 pub ends : (files : Option (List FileEntry)) (word : List ℕ) (before now : Counts) (names : AuxEntry) (inputs : Files) (result : Result (Vec ℕ Global) Stop)
     → IfSome files (λ told. Accepts told word names inputs) → now.faults ≡ before.faults → IfSome files (λ told. IsLast told word Scl before now) → Solves inputs result → Places files word before now result
 ends files word before now names inputs (Ok text) a same last h =
-    (for_told files (λ told accepted. record { names = names; inputs = inputs; accepted = accepted; reported = h }) a, same, last)
+    (for_told files (λ told accepted. record { names = names; inputs = inputs; accepted = accepted; reported = h }) a, same, last, record { inputs = inputs; reported = h })
 ends files word before now names inputs (Err (Refused (Design fault) name)) a same last h =
     (for_told files (λ told accepted. record { cause = record { names = names; inputs = inputs; accepted = accepted; faulty = h.faulty }; named = name_told told word name.items names inputs fault accepted h.named }) a, same, last, tt)
 ends files word before now names inputs (Err (Refused (NotBuilt Nets) name)) a same last h =

@@ -19,7 +19,7 @@ use Rattle.proud_top.specs.Request.{requested}
 use Rattle.proud_top.specs.Accepted.{Accepts}
 use Rattle.proud_top.specs.Refused.{IsRefused, IsRefusedAs, IsOfNets}
 use Rattle.proud_top.specs.Counts.{Counts, IsFaultAt, IsLast, last_kind}
-use Rattle.proud_top.specs.Stops.{IsReportOf, IsStopped}
+use Rattle.proud_top.specs.Stops.{IsReportOf, IsSomeReport, IsStopped}
 use Rattle.proud_top.specs.Answers.{IsReport, GotDueFront}
 use Rattle.proud_top.specs.Answers.IsDue.{unread, refused, report}
 use Rattle.proud_top.specs.Outcome.{Change, Tells, PutsReport, IsAsked, Outcome}
@@ -77,14 +77,14 @@ is_report files words word text e h = record {
 }
 
 pub report_put : (files : Option (List FileEntry)) (words : List (List ℕ)) (word text : List ℕ) (before now : Counts) (faults : Change) (old new : Option (List ℕ)) (status : Status)
-    → requested words ≡ Some word → IfSome files (λ told. IsReportOf told word text) → now.faults ≡ before.faults → IfSome files (λ told. IsLast told word Scl before now)
+    → requested words ≡ Some word → IfSome files (λ told. IsReportOf told word text) → now.faults ≡ before.faults → IfSome files (λ told. IsLast told word Scl before now) → IsSomeReport text
     → PutsReport text faults old new status → Outcome files words before now faults old new status
-report_put files words word text before now faults old new Done e h same last put = (asked words word e, for_told files (λ x r. (text, is_report x words word text e r, put.0)) h, same, put.1, for_told files (λ x u. (word, e, u)) last)
-report_put files words word text before now faults old new WriteFault e h same last put = (asked words word e, for_told files (λ x r. (text, is_report x words word text e r, put.1.0, put.1.1)) h, same, put.0, for_told files (λ x u. (word, e, u)) last)
-report_put files words word text before now faults old new Memory e h same last put = (for_told files (λ x r. inr (text, report (is_report x words word text e r), put)) h, λ none. absurd (asked words word e none))
-report_put files words word text before now faults old new Usage e h same last put = absurd put
-report_put files words word text before now faults old new (Refused refusal) e h same last put = absurd put
-report_put files words word text before now faults old new (ReadFault kind) e h same last put = absurd put
+report_put files words word text before now faults old new Done e h same last some put = (asked words word e, for_told files (λ x r. (text, is_report x words word text e r, put.0)) h, same, put.1, for_told files (λ x u. (word, e, u)) last, (text, some, put.0))
+report_put files words word text before now faults old new WriteFault e h same last some put = (asked words word e, for_told files (λ x r. (text, is_report x words word text e r, put.1.0, put.1.1)) h, same, put.0, for_told files (λ x u. (word, e, u)) last, (text, some, put.1))
+report_put files words word text before now faults old new Memory e h same last some put = (for_told files (λ x r. inr (text, report (is_report x words word text e r), put)) h, λ none. absurd (asked words word e none))
+report_put files words word text before now faults old new Usage e h same last some put = absurd put
+report_put files words word text before now faults old new (Refused refusal) e h same last some put = absurd put
+report_put files words word text before now faults old new (ReadFault kind) e h same last some put = absurd put
 
 append_none : (xs : List ℕ) → xs ++ [] ≡ xs
 append_none [] = refl

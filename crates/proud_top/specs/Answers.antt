@@ -10,6 +10,7 @@ use Rattle.book_design.specs.Files.{Files}
 use Rattle.book_design.specs.Values.{DesignValue}
 use Rattle.book_design.specs.Answers.{IsJoined}
 use Rattle.narrow_system.specs.NarrowSystem.{IsUnbuilt, system_of}
+use Rattle.proud_top.specs.Stops.{IsSomeReport}
 use Rattle.proud_top.specs.declared.status.Refusal.{Refusal}
 use Rattle.proud_top.specs.Lines.{usage_line, cannot_read_line, refusal_line}
 use Rattle.proud_top.specs.Report.{report_of}
@@ -64,3 +65,11 @@ pub data IsDue (files : List FileEntry) (words : List (List ℕ)) (before now : 
 -- After want of memory the report got nothing, or a front of what the call would have put.
 abbrev pub GotDueFront : List FileEntry → List (List ℕ) → Counts → Counts → Option (List ℕ) → Option (List ℕ) → Type 0
 GotDueFront files words before now old new = Appends old new [] ⊎ ((text : List ℕ) × IsDue files words before now text × ((n : ℕ) × Appends old new (take n text)))
+
+-- the report got the report of a design that some records make, whole
+abbrev pub GotSomeReport : Option (List ℕ) → Option (List ℕ) → Type 0
+GotSomeReport old new = (text : List ℕ) × IsSomeReport text × Appends old new text
+
+-- or a front of it
+abbrev pub GotSomeFront : Option (List ℕ) → Option (List ℕ) → Type 0
+GotSomeFront old new = (text : List ℕ) × IsSomeReport text × ((n : ℕ) × Appends old new (take n text))

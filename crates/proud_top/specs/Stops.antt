@@ -33,6 +33,11 @@ pub record IsReportText (inputs : Files) (text : List ℕ) : Type 0 where
   pub joined : IsJoined inputs design
   pub reported : IsDesignReport design text
 
+-- The text is the report of a design that some records make. This holds where the files aren't told, too.
+pub record IsSomeReport (text : List ℕ) : Type 0 where
+  pub inputs : Files
+  pub reported : IsReportText inputs text
+
 -- the text is the report of the design that the files make
 pub record IsReportOf (files : List FileEntry) (word text : List ℕ) : Type 0 where
   pub names : AuxEntry
@@ -48,7 +53,7 @@ pub record IsStopped (files : List FileEntry) (word : List ℕ) (refusal : Refus
 -- The report of what the files make; or why they are refused; or at which file a fault stands. The count of read faults stands
 -- still at any other answer than a fault.
 abbrev pub Places : Option (List FileEntry) → List ℕ → Counts → Counts → Result (Vec ℕ Global) Stop → Type 0
-Places files word before now (Ok text) = IfSome files (λ told. IsReportOf told word text.items) × (now.faults ≡ before.faults) × IfSome files (λ told. IsLast told word Scl before now)
+Places files word before now (Ok text) = IfSome files (λ told. IsReportOf told word text.items) × (now.faults ≡ before.faults) × IfSome files (λ told. IsLast told word Scl before now) × IsSomeReport text.items
 Places files word before now (Err (Refused refusal name)) = IfSome files (λ told. IsStopped told word refusal name.items) × (now.faults ≡ before.faults) × IfSome files (λ told. IsLast told word (last_kind refusal) before now) × IsOfNets refusal
 Places files word before now (Err (Unread kind)) = IfSome files (λ told. IsFaultAt told word kind before now) × Rose before.faults now.faults
 Places files word before now (Err Memory) = now.faults ≡ before.faults

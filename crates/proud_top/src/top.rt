@@ -15,7 +15,7 @@ ghost use Rattle.proud_top.specs.Accepted.{Accepts};
 ghost use Rattle.proud_top.specs.Refused.{IsRefused, IsOfNets};
 ghost use Rattle.proud_top.specs.Counts.{Counts, IsFaultPlace, IsLastBegun, last_kind};
 ghost use Rattle.proud_top.specs.Outcome.{Outcome, Tells, PutsReport};
-ghost use Rattle.proud_top.specs.Answers.{GotReport, GotReportFront, GotLine, GotRefusal, GotDueFront};
+ghost use Rattle.proud_top.specs.Answers.{GotReport, GotReportFront, GotSomeReport, GotSomeFront, GotLine, GotRefusal, GotDueFront};
 
 use crate::laws::laws;
 use crate::lines::{fault_line, refusal_line};
@@ -42,6 +42,7 @@ pub fn proud<F: Folder, S: Sink, G: Gate>(
     ensures done { result ≡ Status.Done → IfSome (F.files folder.old) (λ files.
         GotReport files words.now (S.written report.old) (S.written report.new)) }
     ensures calm_reads { result ≡ Status.Done → F.read_faults folder.new ≡ F.read_faults folder.old }
+    ensures done_anyhow { result ≡ Status.Done → GotSomeReport (S.written report.old) (S.written report.new) }
     ensures done_begun { result ≡ Status.Done → IfSome (F.files folder.old) (λ files. IsLastBegun files words.now FileKind.Scl
         (record { begun = F.begun folder.old; missed = F.missed folder.old; faults = F.read_faults folder.old })
         (record { begun = F.begun folder.new; missed = F.missed folder.new; faults = F.read_faults folder.new })) }
@@ -89,6 +90,7 @@ pub fn proud<F: Folder, S: Sink, G: Gate>(
 
     // WriteFault comes only where the report's count of faults rose. The report got a front of its text.
     ensures write_fault { result ≡ Status.WriteFault → Rose (S.faults report.old) (S.faults report.new) }
+    ensures write_fault_anyhow { result ≡ Status.WriteFault → GotSomeFront (S.written report.old) (S.written report.new) }
     ensures write_fault_begun { result ≡ Status.WriteFault → IfSome (F.files folder.old) (λ files. IsLastBegun files words.now FileKind.Scl
         (record { begun = F.begun folder.old; missed = F.missed folder.old; faults = F.read_faults folder.old })
         (record { begun = F.begun folder.new; missed = F.missed folder.new; faults = F.read_faults folder.new })) }

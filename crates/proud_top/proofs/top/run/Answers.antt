@@ -2,7 +2,7 @@ use Rattle.proud_top.proofs.Outcomes.{refusal_told, fault_told, report_put, noth
 use Rattle.proud_top.proofs.top.run.Goals as goal
 
 pub returns-in-Ok-clause-outcome : goal.returns-in-Ok-clause-outcome
-returns-in-Ok-clause-outcome g c = report_put _ _ _ c.in-Ok.text.items _ _ _ _ _ _ c.in-Some.ensures c.in-Ok.ensures.places.0 c.in-Ok.ensures.places.1 c.in-Ok.ensures.places.2 (rw c.deref.ensures.value at c.put_report.ensures)
+returns-in-Ok-clause-outcome g c = report_put _ _ _ c.in-Ok.text.items _ _ _ _ _ _ c.in-Some.ensures c.in-Ok.ensures.places.0 c.in-Ok.ensures.places.1 c.in-Ok.ensures.places.2 c.in-Ok.ensures.places.3 (rw c.deref.ensures.value at c.put_report.ensures)
 
 pub returns-in-Err-Refused-clause-outcome : goal.returns-in-Err-Refused-clause-outcome
 returns-in-Err-Refused-clause-outcome g c =
