@@ -22,6 +22,7 @@ use Rattle.proud_top.specs.Counts.{Counts, IsFaultAt, IsLast, last_kind}
 use Rattle.proud_top.specs.Stops.{IsReportOf, IsSomeReport, IsStopped}
 use Rattle.proud_top.specs.Answers.{IsReport, GotDueFront}
 use Rattle.proud_top.specs.Answers.IsDue.{unread, refused, report}
+use Rattle.proud_top.specs.Answers.IsSomeDue.{some_unread, some_refused, some_report}
 use Rattle.proud_top.specs.Outcome.{Change, Tells, PutsReport, IsAsked, Outcome}
 use Rattle.proud_top.proofs.Once.{OneAnswer}
 use Rattle.proud_top.proofs.Clash.{placed_or_refused, one_refusal}
@@ -47,7 +48,7 @@ refusal_told files words word name before now faults old new refusal status e h 
     subst P (sym told.0) (asked words word e, for_told files (λ x u. (word, e, u.cause)) h, same, record { name = name; got = told.1; named = for_told files (λ x u. (word, e, u.named)) h }, for_told files (λ x u. (word, e, u)) last, nets)
 refusal_told files words word name before now faults old new refusal status e h same last nets (inr short) =
     let P : Status → Type 0 = Outcome files words before now faults old new in
-    subst P (sym short.0) (for_told files (λ x u. inr (refusal_line refusal name, refused refusal name (word, e, u.cause) (word, e, u.named) refl, short.1)) h, λ none. absurd (asked words word e none))
+    subst P (sym short.0) (for_told files (λ x u. inr (refusal_line refusal name, refused refusal name (word, e, u.cause) (word, e, u.named) refl, short.1)) h, λ none. absurd (asked words word e none), inr (refusal_line refusal name, some_refused refusal name nets refl, short.1))
 
 pub fault_told : (files : Option (List FileEntry)) (words : List (List ℕ)) (word : List ℕ) (before now : Counts) (faults : Change) (old new : Option (List ℕ)) (kind : FileKind) (status : Status)
     → requested words ≡ Some word → IfSome files (λ told. IsFaultAt told word kind before now) → Rose before.faults now.faults
@@ -57,7 +58,7 @@ fault_told files words word before now faults old new kind status e h rose (inl 
     subst P (sym told.0) (asked words word e, for_told files (λ x u. (word, e, u)) h, rose, told.1)
 fault_told files words word before now faults old new kind status e h rose (inr short) =
     let P : Status → Type 0 = Outcome files words before now faults old new in
-    subst P (sym short.0) (for_told files (λ x u. inr (cannot_read_line kind, unread kind (word, e, u) rose refl, short.1)) h, λ none. absurd (asked words word e none))
+    subst P (sym short.0) (for_told files (λ x u. inr (cannot_read_line kind, unread kind (word, e, u) rose refl, short.1)) h, λ none. absurd (asked words word e none), inr (cannot_read_line kind, some_unread kind rose refl, short.1))
 
 is_report : (files : List FileEntry) (words : List (List ℕ)) (word text : List ℕ) → requested words ≡ Some word → IsReportOf files word text → IsReport files words text
 is_report files words word text e h = record {
@@ -81,7 +82,7 @@ pub report_put : (files : Option (List FileEntry)) (words : List (List ℕ)) (wo
     → PutsReport text faults old new status → Outcome files words before now faults old new status
 report_put files words word text before now faults old new Done e h same last some put = (asked words word e, for_told files (λ x r. (text, is_report x words word text e r, put.0)) h, same, put.1, for_told files (λ x u. (word, e, u)) last, (text, some, put.0))
 report_put files words word text before now faults old new WriteFault e h same last some put = (asked words word e, for_told files (λ x r. (text, is_report x words word text e r, put.1.0, put.1.1)) h, same, put.0, for_told files (λ x u. (word, e, u)) last, (text, some, put.1))
-report_put files words word text before now faults old new Memory e h same last some put = (for_told files (λ x r. inr (text, report (is_report x words word text e r), put)) h, λ none. absurd (asked words word e none))
+report_put files words word text before now faults old new Memory e h same last some put = (for_told files (λ x r. inr (text, report (is_report x words word text e r), put)) h, λ none. absurd (asked words word e none), inr (text, some_report some, put))
 report_put files words word text before now faults old new Usage e h same last some put = absurd put
 report_put files words word text before now faults old new (Refused refusal) e h same last some put = absurd put
 report_put files words word text before now faults old new (ReadFault kind) e h same last some put = absurd put
@@ -96,7 +97,7 @@ nothing_put (Some xs) = sym (append_none xs)
 
 pub nothing_told : (files : Option (List FileEntry)) (words : List (List ℕ)) (word : List ℕ) (before now : Counts) (faults : Change) (old : Option (List ℕ))
     → requested words ≡ Some word → Outcome files words before now faults old old Memory
-nothing_told files words word before now faults old e = (each files, λ none. absurd (asked words word e none)) where
+nothing_told files words word before now faults old e = (each files, λ none. absurd (asked words word e none), inl (nothing_put old)) where
   each : (o : Option (List FileEntry)) → IfSome o (λ told. GotDueFront told words before now old old)
   each None = tt
   each (Some told) = inl (nothing_put old)

@@ -16,7 +16,7 @@ use Rattle.proud_top.specs.Lines.{usage_line, cannot_read_line, refusal_line}
 use Rattle.proud_top.specs.Report.{report_of}
 use Rattle.proud_top.specs.Request.{requested}
 use Rattle.proud_top.specs.Accepted.{Accepts}
-use Rattle.proud_top.specs.Refused.{IsRefused, IsNodeNameOf}
+use Rattle.proud_top.specs.Refused.{IsRefused, IsNodeNameOf, IsOfNets}
 use Rattle.proud_top.specs.Counts.{Counts, IsFaultPlace}
 
 -- The text is the report of the design that the accepted files make: a line per point, with the least and the greatest
@@ -73,3 +73,14 @@ GotSomeReport old new = (text : List ℕ) × IsSomeReport text × Appends old ne
 -- or a front of it
 abbrev pub GotSomeFront : Option (List ℕ) → Option (List ℕ) → Type 0
 GotSomeFront old new = (text : List ℕ) × IsSomeReport text × ((n : ℕ) × Appends old new (take n text))
+
+-- What the call would have put, where the files aren't told, too.
+pub data IsSomeDue (words : List (List ℕ)) (before now : Counts) (text : List ℕ) : Type 0 where
+  some_usage : requested words ≡ None → text ≡ usage_line → IsSomeDue words before now text
+  some_unread : (kind : FileKind) → Rose before.faults now.faults → text ≡ cannot_read_line kind → IsSomeDue words before now text
+  some_refused : (refusal : Refusal) (name : List ℕ) → IsOfNets refusal → text ≡ refusal_line refusal name → IsSomeDue words before now text
+  some_report : IsSomeReport text → IsSomeDue words before now text
+
+-- after want of memory the report got nothing, or a front of that
+abbrev pub GotSomeDueFront : List (List ℕ) → Counts → Counts → Option (List ℕ) → Option (List ℕ) → Type 0
+GotSomeDueFront words before now old new = Appends old new [] ⊎ ((text : List ℕ) × IsSomeDue words before now text × ((n : ℕ) × Appends old new (take n text)))

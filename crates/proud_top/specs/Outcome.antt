@@ -10,7 +10,7 @@ use Rattle.proud_top.specs.Lines.{usage_line, cannot_read_line}
 use Rattle.proud_top.specs.Request.{requested}
 use Rattle.proud_top.specs.Refused.{IsRefused, IsOfNets}
 use Rattle.proud_top.specs.Counts.{Counts, IsFaultPlace, IsLastBegun, last_kind}
-use Rattle.proud_top.specs.Answers.{GotReport, GotReportFront, GotSomeReport, GotSomeFront, GotLine, GotRefusal, GotDueFront}
+use Rattle.proud_top.specs.Answers.{GotReport, GotReportFront, GotSomeReport, GotSomeFront, GotLine, GotRefusal, GotDueFront, GotSomeDueFront}
 
 -- a count before and after
 pub record Change : Type 0 where
@@ -40,4 +40,4 @@ Outcome files words before now faults old new Usage = (requested words ≡ None)
 Outcome files words before now faults old new (Refused refusal) = IsAsked words × IfSome files (λ told. IsRefused told words refusal) × (now.faults ≡ before.faults) × GotRefusal files words refusal faults.before faults.now old new × IfSome files (λ told. IsLastBegun told words (last_kind refusal) before now) × IsOfNets refusal
 Outcome files words before now faults old new (ReadFault kind) = IsAsked words × IfSome files (λ told. IsFaultPlace told words kind before now) × Rose before.faults now.faults × GotLine faults.before faults.now old new (cannot_read_line kind)
 Outcome files words before now faults old new WriteFault = IsAsked words × IfSome files (λ told. GotReportFront told words old new) × (now.faults ≡ before.faults) × Rose faults.before faults.now × IfSome files (λ told. IsLastBegun told words Scl before now) × GotSomeFront old new
-Outcome files words before now faults old new Memory = IfSome files (λ told. GotDueFront told words before now old new) × (requested words ≡ None → (n : ℕ) × Appends old new (take n usage_line))
+Outcome files words before now faults old new Memory = IfSome files (λ told. GotDueFront told words before now old new) × (requested words ≡ None → (n : ℕ) × Appends old new (take n usage_line)) × GotSomeDueFront words before now old new

@@ -15,7 +15,7 @@ ghost use Rattle.proud_top.specs.Accepted.{Accepts};
 ghost use Rattle.proud_top.specs.Refused.{IsRefused, IsOfNets};
 ghost use Rattle.proud_top.specs.Counts.{Counts, IsFaultPlace, IsLastBegun, last_kind};
 ghost use Rattle.proud_top.specs.Outcome.{Outcome, Tells, PutsReport};
-ghost use Rattle.proud_top.specs.Answers.{GotReport, GotReportFront, GotSomeReport, GotSomeFront, GotLine, GotRefusal, GotDueFront};
+ghost use Rattle.proud_top.specs.Answers.{GotReport, GotReportFront, GotSomeReport, GotSomeFront, GotLine, GotRefusal, GotDueFront, GotSomeDueFront};
 
 use crate::laws::laws;
 use crate::lines::{fault_line, refusal_line};
@@ -99,6 +99,10 @@ pub fn proud<F: Folder, S: Sink, G: Gate>(
         GotReportFront files words.now (S.written report.old) (S.written report.new)) }
 
     // After want of memory the report got nothing, or a front of what was to be put.
+    ensures memory_anyhow { result ≡ Status.Memory → GotSomeDueFront words.now
+        (record { begun = F.begun folder.old; missed = F.missed folder.old; faults = F.read_faults folder.old })
+        (record { begun = F.begun folder.new; missed = F.missed folder.new; faults = F.read_faults folder.new })
+        (S.written report.old) (S.written report.new) }
     ensures memory_told { result ≡ Status.Memory → IfSome (F.files folder.old) (λ files. GotDueFront files words.now
         (record { begun = F.begun folder.old; missed = F.missed folder.old; faults = F.read_faults folder.old })
         (record { begun = F.begun folder.new; missed = F.missed folder.new; faults = F.read_faults folder.new })
