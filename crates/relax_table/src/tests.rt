@@ -149,7 +149,79 @@ fn goes_down<L: Ledger>(
     Ok(())
 }
 
-/// A second seat looks at a word that the first one raised.
+/// On a chain of three points in the box from 0 to 9, a seat looks at each neighbour that another one raised.
+fn looks_around_on_the_way_up<L: Ledger>(
+    rt: &impl Abort,
+    alloc: Global,
+    steps: &mut Steps<L>,
+) -> Result<(), Memory> {
+    let system = chain_of(rt, alloc, 3, 9)?;
+    assert!(rt; system.points() == 3);
+    let (table, mut seat) = from_bottoms(alloc, &system)?;
+    let mut other = table.split(&mut seat)?;
+    assert_eq!(rt; table.relax(&mut seat, 2, steps), Raised { old: 0, new: 4 });
+    assert_eq!(rt; table.relax(&mut seat, 1, steps), Raised { old: 0, new: 2 });
+    assert_eq!(rt; table.relax(&mut seat, 0, steps), Raised { old: 0, new: 1 });
+    assert_eq!(rt;
+        table.relax(&mut other, 1, steps),
+        Raised { old: 2, new: 2 }
+    );
+    assert_eq!(rt; other.seen(), [1, 2, 4].as_slice());
+    Ok(())
+}
+
+/// On the same chain, a seat looks at each neighbour that another one lowered.
+fn looks_around_on_the_way_down<L: Ledger>(
+    rt: &impl Abort,
+    alloc: Global,
+    steps: &mut Steps<L>,
+) -> Result<(), Memory> {
+    let system = chain_of(rt, alloc, 3, 9)?;
+    assert!(rt; system.points() == 3);
+    let (table, mut seat) = from_tops(alloc, &system)?;
+    let mut other = table.split(&mut seat)?;
+    assert_eq!(rt;
+        table.relax(&mut seat, 0, steps),
+        Lowered { old: 9, new: 5 }
+    );
+    assert_eq!(rt;
+        table.relax(&mut seat, 1, steps),
+        Lowered { old: 9, new: 7 }
+    );
+    assert_eq!(rt;
+        table.relax(&mut seat, 2, steps),
+        Lowered { old: 9, new: 8 }
+    );
+    assert_eq!(rt;
+        table.relax(&mut other, 1, steps),
+        Lowered { old: 7, new: 7 }
+    );
+    assert_eq!(rt; other.seen(), [5, 7, 8].as_slice());
+    Ok(())
+}
+
+/// Settling the two points from a fresh table moves one word on either way, and the seat has counted it.
+fn counts_the_moves<L: Ledger>(
+    rt: &impl Abort,
+    alloc: Global,
+    system: &System,
+    steps: &mut Steps<L>,
+) -> Result<(), Memory>
+    requires { length system.now ≡ 2 }
+{
+    let (floor, mut rising) = from_bottoms(alloc, system)?;
+    floor.settle(&mut rising, steps);
+    assert_eq!(rt; rising.seen(), [0, 1].as_slice());
+    assert_eq!(rt; rising.raises(), 1);
+    let (ceil, mut falling) = from_tops(alloc, system)?;
+    ceil.settle(&mut falling, steps);
+    assert_eq!(rt; falling.seen(), [2, 3].as_slice());
+    assert_eq!(rt; falling.lowers(), 1);
+    Ok(())
+}
+
+/// A second seat looks at a word that the first one raised. Then seats look around on a chain of three, and a seat
+/// settles alone.
 fn looks_at_another<L: Ledger>(
     rt: &impl Abort,
     alloc: Global,
@@ -176,7 +248,9 @@ fn looks_at_another<L: Ledger>(
     );
     table.settle_range(&mut other, 0, 1, &mut steps);
     assert_eq!(rt; other.raises(), 0);
-    Ok(())
+    looks_around_on_the_way_up(rt, alloc, &mut steps)?;
+    looks_around_on_the_way_down(rt, alloc, &mut steps)?;
+    counts_the_moves(rt, alloc, system, &mut steps)
 }
 
 /// Settles a seat, and gives it back.
