@@ -1,6 +1,6 @@
 //! The crew of a ceil table.
 
-ghost use Rattle.std.specs.Prelude.{◌≡◌, ◌+◌, ◌<◌, ◌≤◌, length, vec_len, IfOk};
+ghost use Rattle.std.specs.Prelude.{◌≡◌, ◌+◌, ◌-◌, ◌<◌, ◌≤◌, length, vec_len, IfOk};
 ghost use Rattle.std.specs.Thread.{IsSync};
 ghost use Rattle.relax_system.specs.declared.side.Side.TheVariants.{Ceil};
 ghost use Rattle.relax_system.specs.Sides.{starts_of};
@@ -155,12 +155,31 @@ fn work<L: Ledger, G: Gate>(
 {
     let mut steps = Steps::<L>::new(blank);
     let (from, to) = range;
-    for i in from..to {
-        table.relax(seat, i, &mut steps);
-        gate.pass(k, i);
-    }
+    first_sweep(table, seat, k, range, gate, &mut steps);
     table.settle_range(seat, from, to, &mut steps);
     table.settle(seat, &mut steps);
+}
+
+/// Relaxes each point of a range once, and tells the gate of each.
+fn first_sweep<L: Ledger, G: Gate>(
+    table: &CeilTable<'_>,
+    seat: &mut CeilSeat,
+    k: usize,
+    range: (usize, usize),
+    gate: &G,
+    steps: &mut Steps<L>,
+)
+    requires own { IsSeatOf table.now seat.old }
+    requires order { range.0 ≤ range.1 }
+    requires within { range.1 ≤ length table.now.system }
+    ensures own { IsSeatOf table.now seat.new }
+    ensures fetches { seat.new.fetches ≡ seat.old.fetches + (range.1 - range.0) }
+{
+    let (from, to) = range;
+    for i in from..to {
+        table.relax(seat, i, steps);
+        gate.pass(k, i);
+    }
 }
 
 /// Joins all seats into one.

@@ -204,23 +204,27 @@ impl Meeting {
 fn two_seats_meet(rt: HostRuntime) -> Result<(), Fail> {
     let system = chain_of(&rt, rt.alloc(), 4, 9)?;
     assert!(rt; system.points() == 4);
-    let gate = Meeting::new();
-    let low = least(&rt, rt.alloc(), &system, 2, &gate)?;
+    let rising = Meeting::new();
+    let low = least(&rt, rt.alloc(), &system, 2, &rising)?;
     assert_eq!(rt; low.seat.seen(), [0, 1, 3, 6].as_slice());
-    assert!(rt; gate.took_place());
+    assert!(rt; rising.took_place());
+    let falling = Meeting::new();
+    let high = greatest(&rt, rt.alloc(), &system, 2, &falling)?;
+    assert_eq!(rt; high.seat.seen(), [3, 6, 8, 9].as_slice());
+    assert!(rt; falling.took_place());
     Ok(())
 }
 
-/// Points that aren't joined, in the box from 0 to 1, each with a constant 1.
-fn loose_points(rt: &impl Abort, alloc: Global, count: u32) -> Result<System, Memory> {
+/// Four points that aren't joined, in the box from 0 to 1, each with the same constant.
+fn loose_points(rt: &impl Abort, alloc: Global, constant: u128) -> Result<System, Memory> {
     let mut points = Points::new(alloc);
-    for _ in 0..count {
+    for _ in 0..4 {
         points.push(Point {
             lo: 0,
             hi: 1,
             near: NearList::new(alloc),
             anchor: 1,
-            anchored: 1,
+            anchored: constant,
         })?;
     }
     assert!(rt; is_valid(points.as_slice()));
@@ -230,12 +234,25 @@ fn loose_points(rt: &impl Abort, alloc: Global, count: u32) -> Result<System, Me
 /// Each point is raised once, and each of the two seats has raised the first one of its range before they meet.
 #[test]
 fn the_raises_of_both_seats_are_counted(rt: HostRuntime) -> Result<(), Fail> {
-    let system = loose_points(&rt, rt.alloc(), 4)?;
+    let system = loose_points(&rt, rt.alloc(), 1)?;
     assert!(rt; system.points() == 4);
     let gate = Meeting::new();
     let low = least(&rt, rt.alloc(), &system, 2, &gate)?;
     assert!(rt; gate.took_place());
     assert_eq!(rt; low.seat.seen(), [1, 1, 1, 1].as_slice());
     assert_eq!(rt; low.raises, 4);
+    Ok(())
+}
+
+/// Each point is lowered once, and each of the two seats has lowered the first one of its range before they meet.
+#[test]
+fn the_lowers_of_both_seats_are_counted(rt: HostRuntime) -> Result<(), Fail> {
+    let system = loose_points(&rt, rt.alloc(), 0)?;
+    assert!(rt; system.points() == 4);
+    let gate = Meeting::new();
+    let high = greatest(&rt, rt.alloc(), &system, 2, &gate)?;
+    assert!(rt; gate.took_place());
+    assert_eq!(rt; high.seat.seen(), [0, 0, 0, 0].as_slice());
+    assert_eq!(rt; high.lowers, 4);
     Ok(())
 }
