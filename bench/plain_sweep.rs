@@ -4,45 +4,13 @@
 //! neighbours of weight 840 in the box from 0 to 2^28, the left side anchored at 0 and the right side at the top, once with
 //! the compiler's bounds checks and once without, and prints the nanoseconds for each point and sweep.
 
+mod grid;
+
 use std::time::Instant;
 
+use grid::{Flat, grid};
+
 const SIDE: usize = 100;
-const TOP: u64 = 1 << 28;
-const WEIGHT: u64 = 840;
-
-/// The points in flat arrays: where each one's neighbours begin, the neighbours, and the sums.
-#[derive(Default)]
-struct Flat {
-    starts: Vec<usize>,
-    numbers: Vec<u32>,
-    weights: Vec<u64>,
-    totals: Vec<u64>,
-    anchored: Vec<u64>,
-}
-
-fn grid() -> Flat {
-    let mut flat = Flat::default();
-    flat.starts.push(0);
-    for i in 0..SIDE * SIDE {
-        let (row, column) = (i / SIDE, i % SIDE);
-        let near = [
-            (row > 0).then(|| i - SIDE),
-            (column > 0).then(|| i - 1),
-            (column + 1 < SIDE).then(|| i + 1),
-            (row + 1 < SIDE).then(|| i + SIDE),
-        ];
-        for point in near.into_iter().flatten() {
-            flat.numbers.push(point as u32);
-            flat.weights.push(WEIGHT);
-        }
-        let anchors = u64::from(column == 0) + u64::from(column + 1 == SIDE);
-        let neighbours = flat.numbers.len() - flat.starts[i];
-        flat.starts.push(flat.numbers.len());
-        flat.totals.push(WEIGHT * (anchors + neighbours as u64));
-        flat.anchored.push(WEIGHT * TOP * u64::from(column + 1 == SIDE));
-    }
-    flat
-}
 
 #[inline(never)]
 fn sweep(flat: &Flat, v: &mut [u64]) -> bool {
@@ -98,7 +66,7 @@ fn time(name: &str, flat: &Flat, sweep: impl Fn(&Flat, &mut [u64]) -> bool) {
 }
 
 fn main() {
-    let flat = grid();
+    let flat = grid(SIDE);
     time("checked", &flat, sweep);
     time("unchecked", &flat, sweep_unchecked);
 }

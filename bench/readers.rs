@@ -214,6 +214,34 @@ fn each_line<'a>(
     Ok(number)
 }
 
+/// The record of each line behind the header, in a file that has no counts.
+fn records_behind_header<'a, Record>(
+    text: &'a [u8],
+    format: &[u8],
+    record_of: impl Fn(u64, &[&'a [u8]]) -> Result<Record, Kind>,
+) -> Result<Vec<Record>, Fault> {
+    let mut begun = false;
+    let mut records = Vec::new();
+    let end = each_line(text, |number, words| {
+        if begun {
+            records.push(record_of(number, words)?);
+        } else if is_header(format, words) {
+            begun = true;
+        } else {
+            return Err(Kind::BadHeader);
+        }
+        Ok(())
+    })?;
+    if begun {
+        Ok(records)
+    } else {
+        Err(Fault {
+            line: end,
+            kind: Kind::BadHeader,
+        })
+    }
+}
+
 fn node_of<'a>(line: u64, words: &[&'a [u8]]) -> Result<NodeLine<'a>, Kind> {
     let (name, width, height, fixed) = match words {
         [name, width, height] => (name, width, height, false),
@@ -303,26 +331,7 @@ fn place_of<'a>(line: u64, words: &[&'a [u8]]) -> Result<PlaceLine<'a>, Kind> {
 }
 
 pub fn read_pl(text: &[u8]) -> Result<Vec<PlaceLine<'_>>, Fault> {
-    let mut begun = false;
-    let mut lines = Vec::new();
-    let end = each_line(text, |number, words| {
-        if begun {
-            lines.push(place_of(number, words)?);
-        } else if is_header(b"pl", words) {
-            begun = true;
-        } else {
-            return Err(Kind::BadHeader);
-        }
-        Ok(())
-    })?;
-    if begun {
-        Ok(lines)
-    } else {
-        Err(Fault {
-            line: end,
-            kind: Kind::BadHeader,
-        })
-    }
+    records_behind_header(text, b"pl", place_of)
 }
 
 pub struct PinLine<'a> {
@@ -453,32 +462,13 @@ pub struct WeightLine<'a> {
 }
 
 pub fn read_wts(text: &[u8]) -> Result<Vec<WeightLine<'_>>, Fault> {
-    let mut begun = false;
-    let mut lines = Vec::new();
-    let end = each_line(text, |_, words| {
-        if begun {
-            let [name, weight, ..] = words else {
-                return Err(Kind::BadLine);
-            };
-            lines.push(WeightLine {
-                name,
-                weight: number_of(weight)?,
-            });
-        } else if is_header(b"wts", words) {
-            begun = true;
-        } else {
-            return Err(Kind::BadHeader);
-        }
-        Ok(())
-    })?;
-    if begun {
-        Ok(lines)
-    } else {
-        Err(Fault {
-            line: end,
-            kind: Kind::BadHeader,
-        })
-    }
+    records_behind_header(text, b"wts", |_, words| match words {
+        [name, weight, ..] => Ok(WeightLine {
+            name,
+            weight: number_of(weight)?,
+        }),
+        _ => Err(Kind::BadLine),
+    })
 }
 
 pub struct SubrowLine {

@@ -7,45 +7,12 @@
 //!
 //! `table_settle ROWS` takes the side of the grid, and prints the milliseconds, the raises and the sum of the entries.
 
+mod grid;
+
 use std::sync::atomic::{AtomicU64, Ordering::SeqCst};
 use std::time::Instant;
 
-const TOP: u64 = 1 << 28;
-const WEIGHT: u64 = 840;
-
-/// The points in flat arrays: where each one's neighbours begin, the neighbours, and the sums.
-#[derive(Default)]
-struct Flat {
-    starts: Vec<usize>,
-    numbers: Vec<u32>,
-    weights: Vec<u64>,
-    totals: Vec<u64>,
-    anchored: Vec<u64>,
-}
-
-fn grid(side: usize) -> Flat {
-    let mut flat = Flat::default();
-    flat.starts.push(0);
-    for i in 0..side * side {
-        let (row, column) = (i / side, i % side);
-        let near = [
-            (row > 0).then(|| i - side),
-            (column > 0).then(|| i - 1),
-            (column + 1 < side).then(|| i + 1),
-            (row + 1 < side).then(|| i + side),
-        ];
-        for point in near.into_iter().flatten() {
-            flat.numbers.push(point as u32);
-            flat.weights.push(WEIGHT);
-        }
-        let anchors = u64::from(column == 0) + u64::from(column + 1 == side);
-        let neighbours = flat.numbers.len() - flat.starts[i];
-        flat.starts.push(flat.numbers.len());
-        flat.totals.push(WEIGHT * (anchors + neighbours as u64));
-        flat.anchored.push(WEIGHT * TOP * u64::from(column + 1 == side));
-    }
-    flat
-}
+use grid::{Flat, grid};
 
 /// One relaxation of each point. Whether an entry of what the seat has seen moved.
 ///
