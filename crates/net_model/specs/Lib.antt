@@ -1,0 +1,7 @@
+pub mod Clique
+pub mod Values
+pub mod WellFormed
+pub mod Network
+pub mod Answers
+pub mod Webs
+pub mod Steps

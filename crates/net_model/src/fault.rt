@@ -1,0 +1,43 @@
+use std::alloc::{AllocError, AllocFailed};
+
+/// What is wrong with the nets of a design. The first of these that holds is told, at its first place.
+#[derive(Clone, Copy, Debug, PartialEq, Eq)]
+pub enum NetFault {
+    /// A net with more than 512 distinct nodes, by its number.
+    NetTooWide(u32),
+    /// More than 16,777,216 pair terms of weight at least 1 that have a movable node: how many.
+    TooManyEdges(u64),
+    /// A point whose total weight passes 2^40.
+    Heavy(u32),
+}
+
+/// Why a design has no network.
+#[derive(Clone, Copy, Debug, PartialEq, Eq)]
+pub enum NetError {
+    /// The first fault of the nets.
+    Fault(NetFault),
+    /// Want of memory.
+    Memory,
+}
+
+impl From<AllocError> for NetError {
+    ghost use Rattle.std.specs.Prelude.{◌≡◌};
+    ghost use Rattle.net_model.specs.declared.fault.NetError.TheVariants.{Memory};
+
+    ghost from_gives = { λ _ e. e ≡ Memory };
+
+    fn from(_: AllocError) -> NetError {
+        NetError::Memory
+    }
+}
+
+impl<T: Drop> From<AllocFailed<T>> for NetError {
+    ghost use Rattle.std.specs.Prelude.{◌≡◌};
+    ghost use Rattle.net_model.specs.declared.fault.NetError.TheVariants.{Memory};
+
+    ghost from_gives = { λ _ e. e ≡ Memory };
+
+    fn from(_: AllocFailed<T>) -> NetError {
+        NetError::Memory
+    }
+}

@@ -1,0 +1,81 @@
+ghost use Rattle.std.specs.Prelude.{◌≡◌, ◌<◌, length};
+ghost use Rattle.net_model.specs.Values.{point_at, point_entry};
+ghost use Rattle.net_model.specs.WellFormed.{IsNet};
+
+use crate::parts::{FixedPin, Near};
+use crate::point::NetPoint;
+use book_design::Core;
+use std::marker::Model;
+
+/// The network of a design.
+#[derive(Drop)]
+pub struct Network {
+    points: Vec<NetPoint>,
+    core: Core,
+}
+
+impl Model for Network {
+    ghost use Rattle.net_model.specs.Values.{NetworkValue, point_values};
+    ghost use Rattle.net_model.specs.WellFormed.{IsNet};
+
+    ghost Value = { NetworkValue };
+
+    ghost view = { λ n. record { points = point_values n.points.items; core = n.core } };
+
+    ghost invariant = { λ n. IsNet (record { points = point_values n.points.items; core = n.core }) };
+}
+
+impl Network {
+    /// How many points there are.
+    pub fn points(&self) -> usize
+        ensures points { result ≡ length self.now.points }
+        ensures valid { IsNet self.now }
+    {
+        self.points.len()
+    }
+
+    /// The neighbours of a point, in ascending order.
+    pub fn near(&self, point: u32) -> &[Near]
+        requires { point < length self.now.points }
+        ensures near { result.now ≡ (point_at self.now.points point).near }
+        ensures valid { IsNet self.now }
+    {
+        &self.points[point as usize].near
+    }
+
+    /// The fixed pins of a point, in the order of nets and of first pins.
+    pub fn pins(&self, point: u32) -> &[FixedPin]
+        requires { point < length self.now.points }
+        ensures pins { result.now ≡ (point_at self.now.points point).pins }
+        ensures valid { IsNet self.now }
+    {
+        &self.points[point as usize].pins
+    }
+
+    /// How many sites a point takes.
+
+    pub fn area(&self, point: u32) -> u64
+        requires { point < length self.now.points }
+        ensures area { result ≡ (point_at self.now.points point).area }
+        ensures valid { IsNet self.now }
+    {
+        self.points[point as usize].area
+    }
+
+    /// The point of that number.
+    pub(crate) fn point(&self, i: usize) -> &NetPoint
+        requires { i < length self.now.points }
+        ensures point { point_entry result.now ≡ point_at self.now.points i }
+        ensures valid { IsNet self.now }
+    {
+        &self.points[i]
+    }
+
+    /// The core of the design.
+    pub fn core(&self) -> Core
+        ensures core { result ≡ self.now.core }
+        ensures valid { IsNet self.now }
+    {
+        self.core
+    }
+}
