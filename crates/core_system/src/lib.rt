@@ -1,9 +1,8 @@
 //! The system of a network on one axis, before the chip is cut: all points share the core.
 //!
 //! It stands on the network, and before the crew that solves the system. The fixed pins of a point become constants of its
-//! equation, clamped to the core, as the pads of PROUD (R.-S. Tsay, E. S. Kuh, C.-P. Hsu, IEEE Design & Test of Computers,
-//! 1988) bound the placement. What comes in is a network in which each point reaches a pad, and an axis; what goes out is a
-//! valid system. The contract: `core_system` answers `system_of`.
+//! equation, clamped to the core; that they are clamped is this project's own. What comes in is a network in which each
+//! point reaches a pad, and an axis; what goes out is a valid system. The contract: `core_system` answers `system_of`.
 #![tactic(auto)]
 
 mod axis;

@@ -9,7 +9,8 @@ use std::alloc::Global;
 
 /// The network of a design, or the first fault of its nets.
 ///
-/// It takes time t log t in the pair terms t, and finds that they are too many before it takes memory for them.
+/// It takes time linear in nodes and pins, and t log t in the pair terms t. That they are too many is found before memory is
+/// taken for them.
 pub fn network(alloc: Global, design: &Design<'_>) -> Result<Network, NetError>
     ensures { Answers design.now result }
 {
