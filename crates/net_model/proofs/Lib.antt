@@ -1,0 +1,2 @@
+mod MergingSums
+mod MergingRuns
