@@ -1,1 +1,2 @@
 pub mod CliqueNodes
+pub mod CliqueMarks
