@@ -1,2 +1,3 @@
 pub mod CliqueNodes
 pub mod CliqueMarks
+pub mod CountingTerms
