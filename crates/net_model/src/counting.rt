@@ -33,7 +33,7 @@ pub(crate) fn count_terms(design: &Design<'_>, clique: &mut Clique) -> Result<u6
     Ok(total)
 }
 
-/// How many pair terms a net with these first pins has.
+/// How many pair terms a net with these first pins has: at most the pairs of 512 nodes.
 fn net_terms(design: &Design<'_>, net: &Net, first: &[Pin]) -> u64
     requires valid { IsGoodNet (length design.now.nodes) (net_value net.now) }
     requires first { first.now ≡ first_pins net.now.pins }
@@ -61,7 +61,8 @@ fn pair_count(nodes: usize) -> u64
 /// How many of the pins are at fixed nodes.
 fn count_fixed(design: &Design<'_>, pins: &[Pin]) -> usize
     requires { AreAtNodes (length design.now.nodes) pins.now }
-    ensures { result ≡ length (filter (λ pin. not (is_movable (node_at design.now pin.node))) pins.now) }
+    ensures { result ≡ length (filter (λ pin. not (is_movable (node_at design.now pin.node)))
+        pins.now) }
 {
     let nodes = design.nodes();
     let mut fixed = 0;

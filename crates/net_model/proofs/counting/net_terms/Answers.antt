@@ -3,7 +3,7 @@ use Rattle.book_design.specs.declared.parts.Pin.{Pin}
 use Rattle.book_design.specs.Nets.{net_value}
 use Rattle.net_model.specs.Steps.{AreAtNodes}
 use Rattle.net_model.proofs.CliqueNodes.{first_there}
-use Rattle.net_model.proofs.CountingTerms.{net_there, few_fixed, fewer_pairs, few_pairs}
+use Rattle.net_model.proofs.CountingTerms.{net_there, few_fixed, fewer_pairs}
 use Rattle.net_model.proofs.counting.net_terms.Goals as goal
 
 pub count_fixed-requires : goal.count_fixed-requires
