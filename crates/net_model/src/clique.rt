@@ -30,6 +30,8 @@ impl Clique {
     }
 
     /// Gathers the first pins of the distinct nodes of a net, in linear time.
+    ///
+    /// After an `Err` nodes may stay marked, and no further net can be gathered.
     pub(crate) fn gather(&mut self, pins: &[Pin]) -> Result<(), AllocError>
         requires unmarked { IsUnmarked (vec_len self.old.seen) self.old.seen.items }
         requires there { AreAtNodes (vec_len self.old.seen) pins.now }
