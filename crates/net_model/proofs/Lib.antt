@@ -1,2 +1,5 @@
 mod MergingSums
 mod MergingRuns
+pub mod CliqueNodes
+pub mod CliqueMarks
+pub mod CountingTerms
