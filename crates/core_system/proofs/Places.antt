@@ -1,5 +1,5 @@
 -- Places on an axis: the core's range, what is clamped to it, and coordinates.
-use Rattle.std.proofs.Common.{◌≡◌, ◌*◌, ◌^◌, ◌≤◌, refl, w64, to_z, of_z, arith}
+use Rattle.std.proofs.Common.{◌≡◌, ◌^◌, ◌≤◌, refl, w64, to_z, of_z, arith}
 use mir.Val.{SFits}
 use Rattle.std.specs.Prelude.{ℤ, pos, negsuc, nat_abs, ◌+ℤ◌, ◌≤ℤ◌}
 use Rattle.std.specs.Int.{int_min, int_max}

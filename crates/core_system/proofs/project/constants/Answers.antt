@@ -1,4 +1,4 @@
-use Rattle.std.proofs.Common.{◌≡◌, ◌+◌, ◌*◌, ◌^◌, ◌<◌, ℕ, get_or, take, sym, subst, pos, arith, rules}
+use Rattle.std.proofs.Common.{◌≡◌, ◌+◌, ◌*◌, get_or, take, pos, arith}
 use Rattle.net_model.specs.declared.parts.FixedPin.{FixedPin}
 use Rattle.core_system.specs.CoreSystem.{clamped}
 use Rattle.core_system.proofs.Constants.{pins_sum, next_fits}
