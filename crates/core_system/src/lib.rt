@@ -13,3 +13,6 @@ mod project;
 pub use axis::Axis;
 pub use laws::chains_stay;
 pub use project::core_system;
+
+#[cfg(test)]
+mod tests;
