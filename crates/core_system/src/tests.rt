@@ -17,8 +17,8 @@ use std::test::Fail;
 const NODES: &[u8] = b"UCLA nodes 1.0\nNumNodes : 4\nNumTerminals : 2\na 2 10\nb 2 10\n\
     l 0 0 terminal\nr 2 4 terminal\n";
 
-/// A net of weight 3 between the cells, one to the pad, and one over both cells and the block, whose
-/// pin stands at 19 and 9.5 units.
+/// A net of weight 3 between the cells, one to the pad, and one over both cells and the block, with
+/// the block's pin at 19 and 9.5 units.
 const NETS: &[u8] = b"UCLA nets 1.0\nNumNets : 3\nNumPins : 7\nNetDegree : 2 n0\nl B\na B\n\
     NetDegree : 2 n1\na B\nb B\nNetDegree : 3 n2\na B\nb B\nr B : -12.0 0.5\n";
 
