@@ -1,5 +1,5 @@
 -- The system of a network on an axis, where all points share the core: its range on the axis is the box of each.
-use Rattle.std.specs.Prelude.{◌≡◌, ℕ, ◌+◌, ◌*◌, ◌^◌, List, map, sum_by, ℤ, pos, nat_abs, ◌+ℤ◌}
+use Rattle.std.specs.Prelude.{ℕ, ◌*◌, ◌^◌, List, map, sum_by, ℤ, pos, nat_abs, ◌+ℤ◌}
 use Rattle.std.specs.Int.{int_min, int_max}
 use Rattle.relax_system.specs.declared.points.Near.{Near as Neighbour}
 use Rattle.relax_system.specs.declared.points.Point.{Point}

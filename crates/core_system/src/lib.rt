@@ -6,7 +6,12 @@
 #![tactic(auto)]
 
 mod axis;
+mod laws;
 mod project;
 
 pub use axis::Axis;
+pub use laws::chains_stay;
 pub use project::core_system;
+
+#[cfg(test)]
+mod tests;

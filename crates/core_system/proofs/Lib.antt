@@ -1,0 +1,4 @@
+mod Places
+mod Constants
+mod Chains
+mod Valid
