@@ -1,2 +1,3 @@
 mod Movable
+pub mod CliqueNodes
 mod MakingPoints
