@@ -1,3 +1,7 @@
 mod Movable
 pub mod CliqueNodes
+mod MergingSums
+mod MergingRuns
 mod MakingPoints
+mod MakingNets
+mod MakingEntries
