@@ -5,3 +5,5 @@ mod MergingRuns
 mod MakingPoints
 mod MakingNets
 mod MakingEntries
+mod MakingWell
+mod MakingNetwork

@@ -1,6 +1,6 @@
 //! From a design to its network.
 
-ghost use Rattle.std.specs.Prelude.{◌≡◌, ℕ, ◌^◌, ◌<◌, ◌≤◌, length, map, All, OnOk, MatchOption};
+ghost use Rattle.std.specs.Prelude.{◌≡◌, ℕ, ◌^◌, ◌<◌, ◌≤◌, length, map, All, MatchOption};
 ghost use Rattle.book_design.specs.Faults.{IsFirst};
 ghost use Rattle.net_model.specs.Answers.{Answers};
 ghost use Rattle.net_model.specs.Network.{total_weight, terms, IsTooWide};
@@ -15,7 +15,7 @@ use crate::merging::merge;
 use crate::model::Network;
 use crate::point::NetPoint;
 use book_design::Design;
-use std::alloc::{AllocError, Global};
+use std::alloc::Global;
 
 /// The most pair terms that the nets of a network have.
 const MOST_TERMS: u64 = 16_777_216;
@@ -49,7 +49,7 @@ fn network_of_few(
     ensures { Answers design.now result }
 {
     let mut points = joined_points(alloc, design, clique)?;
-    merge_entries(&mut points)?;
+    merge_entries(&mut points);
     match first_heavy(&points) {
         Some(point) => Err(NetError::Fault(NetFault::Heavy(point))),
         None => Ok(Network::new(points, design.core())),
@@ -57,15 +57,13 @@ fn network_of_few(
 }
 
 /// Puts the sum of the entries of each pair of points in their place.
-fn merge_entries(points: &mut [NetPoint]) -> Result<(), AllocError>
+fn merge_entries(points: &mut [NetPoint])
     requires { All (IsUnsummed (length points.old)) (point_values points.old) }
-    ensures { OnOk result
-        (point_values points.new ≡ map (summed (length points.old)) (point_values points.old)) }
+    ensures { point_values points.new ≡ map (summed (length points.old)) (point_values points.old) }
 {
     for point in points.iter_mut() {
-        merge(&mut point.near)?;
+        merge(&mut point.near);
     }
-    Ok(())
 }
 
 /// The first of the points whose total weight passes 2^40.
