@@ -1,5 +1,5 @@
 -- The entries of the first places, joined run by run: their points rise, and each point keeps its sum, which fixes the list.
-use Rattle.std.proofs.Common.{◌≡◌, ◌≢◌, ◌⊎◌, ℕ, zero, suc, ◌+◌, ◌-◌, ◌<◌, ◌≤◌, Bool, true, false, cond, eqb, List, [], ◌∷◌, ◌++◌, length, get_or, set, take, Option, None, Some, refl, sym, ◌∙◌, ap, subst, inl, inr, arith, add-one}
+use Rattle.std.proofs.Common.{◌≡◌, ◌≢◌, ◌⊎◌, ℕ, zero, suc, ◌+◌, ◌-◌, ◌<◌, ◌≤◌, Bool, false, cond, eqb, List, [], ◌∷◌, ◌++◌, length, get_or, set, take, None, Some, refl, sym, ◌∙◌, ap, subst, inl, inr, arith}
 use Rattle.std.specs.Prelude.{All}
 use Rattle.std.specs.List.{filter_map, range_with_len, cons_option}
 use Rattle.std.specs.List.Sorted.{IsNonDecreasingBy}
@@ -8,7 +8,7 @@ use Rattle.std.proofs.lemmas.List.{take_more, take-set, take_all, length-set, ge
 use Rattle.std.proofs.lemmas.List.Sums.{sum_by_more_le_part}
 use Rattle.net_model.specs.declared.parts.Near.{Near}
 use Rattle.net_model.specs.Steps.{weight_at, as_sum}
-use Rattle.net_model.proofs.MergingSums.{weight_for, weight_sum, weight_at-cons, weight_at-append}
+use Rattle.net_model.proofs.MergingSums.{weight_for, weight_sum, sum_of, weight_at-cons, weight_at-append}
 
 -- ---- a list with points that rise is the list of its sums
 
@@ -34,16 +34,16 @@ nothing_before low high [] q rises before = refl
 nothing_before low high (first ∷ near) q rises before =
     omega (arith, weight_at-cons first near q, elsewhere first q (omega (arith, rises.0)), nothing_before (first.point + 1) high near q rises.2 (omega (arith, rises.0)))
 
-abbrev sum_at : ℕ → ℕ → Near
-sum_at q w = record { point = q; weight = w }
+abbrev entry_of : ℕ → ℕ → Near
+entry_of q w = record { point = q; weight = w }
 
 no_sum : (near : List Near) (q : ℕ) → weight_at near q ≡ 0 → as_sum near q ≡ None
-no_sum near q none = ap (λ (w : ℕ). cond (eqb w 0) None (Some (sum_at q w))) none
+no_sum near q none = ap (sum_of q) none
 
 a_sum : (near : List Near) (q w : ℕ) → weight_at near q ≡ w → 1 ≤ w → as_sum near q ≡ Some (record { point = q; weight = w })
 a_sum near q w is weighty =
     let test : eqb w 0 ≡ false = grind (arith, nat_tests) in
-    ap (λ (v : ℕ). cond (eqb v 0) None (Some (sum_at q v))) is ∙ ap (λ (b : Bool). cond b None (Some (sum_at q w))) test
+    ap (sum_of q) is ∙ ap (λ (b : Bool). cond b None (Some (entry_of q w))) test
 
 -- what follows the first entry gives a later point the same
 same_later : (first : Near) (near : List Near) (q : ℕ) → first.point < q → weight_at (first ∷ near) q ≡ weight_at near q
@@ -61,8 +61,8 @@ the_sums old (entry ∷ near) a (suc n) high rises below same = by_cases (λ r. 
   later_sums = filter_map (as_sum old) (range_with_len (a + 1) n)
 
   by_cases : (RisesTo (a + 1) high near → ((q : ℕ) → a + 1 ≤ q → weight_at near q ≡ weight_at old q) → near ≡ later_sums)
-    → (RisesTo (a + 1) high (entry ∷ near) → ((q : ℕ) → a + 1 ≤ q → weight_at (entry ∷ near) q ≡ weight_at old q) → entry ∷ near ≡ later_sums)
-    → (entry.point ≡ a) ⊎ (a + 1 ≤ entry.point) → entry ∷ near ≡ cons_option (as_sum old a) later_sums
+      → (RisesTo (a + 1) high (entry ∷ near) → ((q : ℕ) → a + 1 ≤ q → weight_at (entry ∷ near) q ≡ weight_at old q) → entry ∷ near ≡ later_sums)
+      → (entry.point ≡ a) ⊎ (a + 1 ≤ entry.point) → entry ∷ near ≡ cons_option (as_sum old a) later_sums
   by_cases after_it with_it (inl at) =
       let here : weight_for a entry ≡ entry.weight = grind (arith, nat_tests) in
       let nothing = nothing_before (entry.point + 1) high near a rises.2 (omega arith) in
@@ -70,7 +70,7 @@ the_sums old (entry ∷ near) a (suc n) high rises below same = by_cases (λ r. 
       let rest : near ≡ later_sums = after_it rises_on (λ q h. sym (same_later entry near q (omega arith)) ∙ same q (omega arith)) in
       let whole : weight_at (entry ∷ near) a ≡ weight_at old a = same a (omega arith) in
       let sum : weight_at old a ≡ entry.weight = omega (arith, weight_at-cons entry near a, here, nothing, whole) in
-      ap (λ p. sum_at p entry.weight ∷ near) at ∙ ap (λ s. cons_option s near) (sym (a_sum old a entry.weight sum rises.1)) ∙ ap (cons_option (as_sum old a)) rest
+      ap (λ p. entry_of p entry.weight ∷ near) at ∙ ap (λ s. cons_option s near) (sym (a_sum old a entry.weight sum rises.1)) ∙ ap (cons_option (as_sum old a)) rest
   by_cases after_it with_it (inr later) =
       let whole : weight_at (entry ∷ near) a ≡ weight_at old a = same a (omega arith) in
       let nothing = nothing_before (a + 1) high (entry ∷ near) a (later, rises.1, rises.2) (omega arith) in
@@ -156,12 +156,12 @@ joins_same given now i last e inside h same =
       rest = λ j d later. let other : j ≢ last = omega (arith, h.before) in get_or-set_other now last j sum d other ∙ h.rest j d (omega arith);
       at = λ d. ap (λ x. x.point) (get_or-set_same now last sum d at_last) ∙ same ∙ point_kept given now i last d e inside h;
       merge = λ d some. moved _ _ _ _ _ _ (taken given now i last e inside h) (take-set now last sum) (get_or-set_same now last sum d at_last)
-        (merge_add (take i given) (take last now) (get_or now last e) (get_or now i e) (h.merge e some) same);
+          (merge_add (take i given) (take last now) (get_or now last e) (get_or now i e) (h.merge e some) same);
     }
 
 -- an entry of another point stands after the last one
 pub joins_next : (given now : List Near) (i last : ℕ) (e : Near) → i < length given → IsNonDecreasingBy (λ entry. entry.point) given → All (λ entry. 1 ≤ entry.weight) given
-  → JoinsRuns given now i last → (get_or now last e).point ≢ (get_or now i e).point → JoinsRuns given (set now (last + 1) (get_or now i e)) (i + 1) (last + 1)
+    → JoinsRuns given now i last → (get_or now last e).point ≢ (get_or now i e).point → JoinsRuns given (set now (last + 1) (get_or now i e)) (i + 1) (last + 1)
 joins_next given now i last e inside sorted weighty h other =
     let entry = get_or now i e in
     let kept = h.rest i e (omega arith) in
@@ -176,7 +176,7 @@ joins_next given now i last e inside sorted weighty h other =
       rest = λ j d after. let else_where : j ≢ last + 1 = omega (arith, h.before) in get_or-set_other now (last + 1) j entry d else_where ∙ h.rest j d (omega arith);
       at = λ d. ap (λ x. x.point) (get_or-set_same now (last + 1) entry d at_next) ∙ point_kept given now i last d e inside h;
       merge = λ d some. moved _ _ _ _ _ _ (taken given now i last e inside h) (take-set now (last + 1) entry ∙ take_more now last e (omega arith)) (get_or-set_same now (last + 1) entry d at_next)
-        (merge_push (take i given) (take last now) (get_or now last e) entry (h.merge e some) later some_weight);
+          (merge_push (take i given) (take last now) (get_or now last e) entry (h.merge e some) later some_weight);
     }
 
 -- once all entries are joined, the front is the list of their sums

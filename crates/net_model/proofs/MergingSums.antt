@@ -1,5 +1,5 @@
 -- What a point has of the weights of a list of entries: by its parts, in another order, and summed over all points.
-use Rattle.std.proofs.Common.{◌≡◌, ◌⊎◌, ℕ, zero, suc, ◌+◌, ◌<◌, ◌≤◌, Bool, true, false, cond, eqb, List, [], ◌∷◌, ◌++◌, Option, None, Some, refl, sym, ◌∙◌, ap, subst, inl, inr, arith, add-one}
+use Rattle.std.proofs.Common.{◌≡◌, ◌⊎◌, ℕ, zero, suc, ◌+◌, ◌<◌, ◌≤◌, Bool, true, false, cond, eqb, List, [], ◌∷◌, ◌++◌, Option, None, Some, refl, sym, ◌∙◌, ap, inl, inr, arith}
 use Rattle.std.specs.Prelude.{sum_by, All}
 use Rattle.std.specs.List.{filter_map, flat_map, range_with_len, cons_option}
 use Rattle.std.specs.List.Sorted.{IsPermutation}
@@ -18,6 +18,10 @@ weight_for q entry = cond (eqb entry.point q) entry.weight 0
 abbrev pub weight_sum : List Near → ℕ
 weight_sum near = sum_by (λ entry. entry.weight) near
 
+-- the entry of a sum, where it isn't 0
+abbrev pub sum_of : ℕ → ℕ → Option Near
+sum_of q sum = cond (eqb sum 0) None (Some (record { point = q; weight = sum }))
+
 -- ---- by the parts of the list
 
 pub weight_at-cons : (entry : Near) (near : List Near) (q : ℕ) → weight_at (entry ∷ near) q ≡ weight_for q entry + weight_at near q
@@ -34,6 +38,13 @@ weight_at-flat_map f (net ∷ nets) q =
 -- another order gives each point the same
 pub weight_at-permutation : (xs ys : List Near) (q : ℕ) → IsPermutation xs ys → weight_at ys q ≡ weight_at xs q
 weight_at-permutation xs ys q moved = sum_by-IsPermutation (weight_for q) xs ys moved
+
+-- so the sums are the same, too
+pub sums-permutation : (xs ys : List Near) (points : List ℕ) → IsPermutation xs ys → filter_map (as_sum ys) points ≡ filter_map (as_sum xs) points
+sums-permutation xs ys [] moved = refl
+sums-permutation xs ys (q ∷ points) moved =
+    let here : as_sum ys q ≡ as_sum xs q = ap (sum_of q) (weight_at-permutation xs ys q moved) in
+    ap (λ s. cons_option s (filter_map (as_sum ys) points)) here ∙ ap (cons_option (as_sum xs q)) (sums-permutation xs ys points moved)
 
 -- ---- over all points
 

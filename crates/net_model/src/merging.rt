@@ -1,4 +1,4 @@
-//! The sums of a point's entries.
+//! The sums of a list's entries, one for each point.
 
 ghost use Rattle.std.specs.Prelude.{◌≡◌, ℕ, ◌+◌, ◌^◌, ◌<◌, ◌≤◌, sum_by, All, length, take};
 ghost use Rattle.std.specs.List.{filter_map, range_with_len};
@@ -7,20 +7,23 @@ ghost use Rattle.net_model.specs.Steps.{as_sum};
 
 use crate::parts::Near;
 
-/// Sorts the entries by their points, and puts one entry with the sum of the weights in the place of those of one point.
+/// Sorts the entries by their points, and puts one entry with the sum of the weights in the place of
+/// those of one point.
 pub(crate) fn merge(near: &mut Vec<Near>)
     requires fits { sum_by (λ entry. entry.weight) near.old.items < 2 ^ 64 }
     requires weighty { All (λ entry. 1 ≤ entry.weight) near.old.items }
     ensures { (n : ℕ) → All (λ entry. entry.point < n) near.old.items
         → near.new.items ≡ filter_map (as_sum near.old.items) (range_with_len 0 n) }
 {
+    // Entries of one point are added up, so their order is free, and the sort takes no memory.
     near.sort_unstable_by_key(|entry| entry.point);
     let last = join_runs(near.as_mut_slice());
     near.truncate(last + 1);
 }
 
-/// Puts one entry with the sum of the weights in the place of each run of entries of one point, in front of what is
-/// left over, and gives the place of the last one.
+/// Puts one entry with the sum of the weights in the place of each run of entries of one point, to
+/// the front, and gives the place of the last of them, or 0 where there is none. What stands past
+/// that place is left over.
 fn join_runs(near: &mut [Near]) -> usize
     requires sorted { IsNonDecreasingBy (λ entry. entry.point) near.old }
     requires fits { sum_by (λ entry. entry.weight) near.old < 2 ^ 64 }
