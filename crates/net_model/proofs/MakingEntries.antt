@@ -1,13 +1,12 @@
 -- What all nets give a point: entries whose sums are its neighbours, and whose weights fit together.
-use Rattle.std.proofs.Common.{◌≡◌, ◌≢◌, ◌⊎◌, ℕ, zero, suc, ◌+◌, ◌*◌, ◌^◌, ◌<◌, ◌≤◌, Bool, true, false, not, ◌&&◌, ◌||◌, cond, eqb, List, [], ◌∷◌, ◌++◌, length, refl, sym, ◌∙◌, ap, subst, arith}
+use Rattle.std.proofs.Common.{◌≡◌, ◌≢◌, ℕ, zero, suc, ◌+◌, ◌*◌, ◌^◌, ◌<◌, ◌≤◌, Bool, true, false, not, ◌&&◌, ◌||◌, cond, eqb, List, [], ◌∷◌, length, refl, sym, ◌∙◌, ap, arith}
 use Rattle.std.specs.Prelude.{Option, None, Some, if◌then◌else◌, sum_by, All}
-use Rattle.std.specs.List.{filter_map, flat_map, range_with_len, cons_option, AllByRecursion}
-use Rattle.std.proofs.Math.Nat.{suc-mul}
-use Rattle.std.proofs.lemmas.Bool.{eqb-true, eqb-false, eq-eqb}
+use Rattle.std.specs.List.{filter_map, range_with_len, cons_option, AllByRecursion}
+use Rattle.std.proofs.lemmas.Bool.{eqb-true, eqb-false}
 use Rattle.std.proofs.lemmas.List.Elements.{All-nil, All-cons, All-append}
 use Rattle.std.proofs.lemmas.List.Sums.{sum_by-cons, sum_by-append}
 use Rattle.book_design.specs.declared.parts.Pin.{Pin}
-use Rattle.book_design.specs.Values.{NodeValue, NetValue, DesignValue}
+use Rattle.book_design.specs.Values.{NetValue, DesignValue}
 use Rattle.book_design.specs.Points.{is_movable, movable_before, IsNodeOf}
 use Rattle.book_design.specs.WellFormed.{IsDesign, IsGoodNet}
 use Rattle.net_model.specs.declared.parts.Near.{Near}
@@ -89,8 +88,14 @@ nears_entries design (net ∷ nets) i =
 nets_bound : (design : DesignValue) (nets : List NetValue) (i n : ℕ) → is_movable (node_at design i) ≡ true → AllByRecursion (IsGoodNet n) nets → weight_sum (nears_by design nets i) + pin_sum (pins_by design nets i) ≤ length nets * 55049400
 nets_bound design [] i n movable good = omega arith
 nets_bound design (net ∷ nets) i n movable good =
-    omega (arith, sum_by-append (λ (entry : Near). entry.weight) (nears_in design i net) (nears_by design nets i), sum_by-append (λ (pin : FixedPin). pin.weight) (pins_in design i net) (pins_by design nets i),
-    net_bound design net i movable, good.0.weight, nets_bound design nets i n movable good.1)
+    omega (
+      arith,
+      sum_by-append (λ (entry : Near). entry.weight) (nears_in design i net) (nears_by design nets i),
+      sum_by-append (λ (pin : FixedPin). pin.weight) (pins_in design i net) (pins_by design nets i),
+      net_bound design net i movable,
+      good.0.weight,
+      nets_bound design nets i n movable good.1,
+    )
 
 pub all_fit : (design : DesignValue) (i : ℕ) → IsDesign design → is_movable (node_at design i) ≡ true → weight_sum (nears_by design design.nets i) + pin_sum (pins_by design design.nets i) < 2 ^ 58
 all_fit design i h movable = omega (arith, nets_bound design design.nets i (length design.nodes) movable h.nets, h.few_nets)

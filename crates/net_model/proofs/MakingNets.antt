@@ -1,6 +1,6 @@
 -- What one net gives a node: its share for each other node, once, and in all no more than 840 times its weight.
-use Rattle.std.proofs.Common.{◌≡◌, ◌≢◌, ◌⊎◌, ℕ, zero, suc, ◌+◌, ◌-◌, ◌*◌, ◌/◌, ◌<◌, ◌≤◌, Bool, true, false, not, ◌&&◌, ◌||◌, cond, eqb, ltb, List, [], ◌∷◌, ◌++◌, length, get_or, refl, sym, ◌∙◌, ap, subst, inl, inr, arith, zero-add}
-use Rattle.std.specs.Prelude.{Option, None, Some, if◌then◌else◌, ◌==◌, ◌+ℤ◌, sum_by, All}
+use Rattle.std.proofs.Common.{◌≡◌, ◌≢◌, ◌⊎◌, ℕ, zero, suc, ◌+◌, ◌-◌, ◌*◌, ◌/◌, ◌<◌, ◌≤◌, Bool, true, false, not, ◌&&◌, ◌||◌, cond, eqb, ltb, List, [], ◌∷◌, length, refl, sym, ◌∙◌, ap, inl, inr, arith}
+use Rattle.std.specs.Prelude.{Option, None, Some, if◌then◌else◌, ◌==◌, ◌+ℤ◌, sum_by}
 use Rattle.std.specs.List.{filter_map, cons_option}
 use Rattle.std.proofs.Math.Nat.{suc-mul, mul-div-le}
 use Rattle.std.proofs.lemmas.Bool.{eqb-true, eqb-false, eq-eqb, ne_eqb, both_ways, cases_lt}
@@ -16,7 +16,7 @@ use Rattle.net_model.specs.Network.{node_at, node_of, point_nodes, pins_in}
 use Rattle.net_model.specs.Steps.{nears_in, weight_at}
 use Rattle.net_model.proofs.Movable.{no_node, each_movable, one_number}
 use Rattle.net_model.proofs.CliqueNodes.{is_joined, AreDistinct, distinct_first, joined_first}
-use Rattle.net_model.proofs.MergingSums.{weight_for, weight_sum, weight_at-cons}
+use Rattle.net_model.proofs.MergingSums.{weight_sum, weight_at-cons}
 
 -- the sum of the weights of fixed pins
 abbrev pub pin_sum : List FixedPin → ℕ

@@ -1,15 +1,13 @@
 -- The loops over the points: their entries summed in place, and the first heavy one.
-use Rattle.std.proofs.Common.{◌≡◌, ℕ, ◌+◌, ◌-◌, ◌^◌, ◌<◌, ◌≤◌, List, [], ◌∷◌, ◌++◌, length, get_or, map, take, drop, set, refl, sym, ◌∙◌, ap, subst, arith, add-one}
-use Rattle.std.specs.Prelude.{sum_by, All}
-use Rattle.std.specs.List.{filter_map, range_with_len}
-use Rattle.std.proofs.lemmas.List.{get_or-map, get_or-append_right, get_or-drop, length-map, length-take-le, length-take, length-drop, length-append, map-set}
+use Rattle.std.proofs.Common.{◌≡◌, ℕ, ◌+◌, ◌-◌, ◌^◌, ◌<◌, ◌≤◌, List, [], ◌++◌, length, get_or, map, take, drop, set, sym, ◌∙◌, ap, subst, arith}
+use Rattle.std.specs.Prelude.{All}
+use Rattle.std.proofs.lemmas.List.{get_or-map, get_or-append_right, get_or-drop, length-map, length-take, length-drop, length-append, map-set}
 use Rattle.std.proofs.lemmas.List.Edits.{map_over_more}
 use Rattle.std.proofs.lemmas.List.Elements.{All-get_or, All-weaker}
-use Rattle.net_model.specs.declared.parts.Near.{Near}
 use Rattle.net_model.specs.declared.point.NetPoint.{NetPoint}
 use Rattle.net_model.specs.Values.{PointValue, point_entry, point_values, point_at}
 use Rattle.net_model.specs.Network.{total_weight}
-use Rattle.net_model.specs.Steps.{as_sum, IsEntry, IsUnsummed, summed, IsHeavyPoint}
+use Rattle.net_model.specs.Steps.{IsEntry, IsUnsummed, summed, IsHeavyPoint}
 
 abbrev pub no_point : PointValue
 no_point = record { near = []; pins = []; area = 0 }

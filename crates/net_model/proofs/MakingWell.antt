@@ -1,23 +1,22 @@
 -- The network of a design is well formed.
-use Rattle.std.proofs.Common.{◌≡◌, ◌≢◌, ◌⊎◌, ℕ, zero, suc, ◌+◌, ◌*◌, ◌/◌, ◌^◌, ◌<◌, ◌≤◌, Bool, true, false, ◌||◌, cond, eqb, List, [], ◌∷◌, ◌++◌, length, get_or, max, map, refl, sym, ◌∙◌, ap, subst, arith, inl, inr, take, length-take}
-use Rattle.std.specs.Prelude.{Option, None, Some, if◌then◌else◌, nat_abs, pos, neg_ℤ, ◌≤ℤ◌, ◌+ℤ◌, ◌==◌, ℤ, All}
+use Rattle.std.proofs.Common.{◌≡◌, ◌⊎◌, ℕ, zero, suc, ◌+◌, ◌*◌, ◌/◌, ◌^◌, ◌<◌, ◌≤◌, Bool, true, false, ◌||◌, eqb, List, [], ◌∷◌, length, refl, sym, subst, arith, inl, inr, take, length-take}
+use Rattle.std.specs.Prelude.{None, Some, if◌then◌else◌, nat_abs, pos, neg_ℤ, ◌≤ℤ◌, ◌+ℤ◌, ℤ, All}
 use Rattle.std.specs.Int.{div_ceil}
-use Rattle.std.specs.List.{filter_map, flat_map, range_with_len, cons_option, AllByRecursion}
+use Rattle.std.specs.List.{filter_map, range_with_len, cons_option, AllByRecursion}
 use Rattle.std.proofs.Math.Nat.{mul-le-mul_right}
 use Rattle.std.proofs.lemmas.Bool.{eqb-false, cases_lt}
 use Rattle.std.proofs.lemmas.Int.{ints}
-use Rattle.std.proofs.lemmas.List.{get_or_default}
-use Rattle.std.proofs.lemmas.List.Elements.{All-get_or, All-from_recursion, recursion_from_All, All-append, All-nil, All-cons}
+use Rattle.std.proofs.lemmas.List.Elements.{All-get_or, All-from_recursion, recursion_from_All, All-append, All-nil}
 use Rattle.std.proofs.lemmas.List.FromFn.{length-map-range_with_len, get_or-map-range_with_len}
 use Rattle.std.proofs.lemmas.List.Sums.{count_by-le-length}
 use Rattle.book_design.specs.declared.parts.Pin.{Pin}
-use Rattle.book_design.specs.Values.{NodeValue, NetValue, DesignValue}
-use Rattle.book_design.specs.Points.{is_movable, node_value_at, site_count}
+use Rattle.book_design.specs.Values.{NetValue, DesignValue}
+use Rattle.book_design.specs.Points.{is_movable, site_count}
 use Rattle.book_design.specs.WellFormed.{IsDesign, IsGoodNode, IsGoodNet, IsGoodPin as IsGoodNetPin}
 use Rattle.net_model.specs.declared.parts.Near.{Near}
 use Rattle.net_model.specs.declared.parts.FixedPin.{FixedPin}
 use Rattle.net_model.specs.Clique.{first_pins, has_node, share, centre_x, centre_y}
-use Rattle.net_model.specs.Network.{node_at, node_of, point_nodes, pair_weight, as_near, near_of, pins_in, pins_of, point_value, network_of, total_weight, IsHeavy, IsNetwork}
+use Rattle.net_model.specs.Network.{node_at, node_of, point_nodes, pair_weight, as_near, pins_in, pins_of, point_value, network_of, total_weight, IsHeavy, IsNetwork}
 use Rattle.net_model.specs.Steps.{pins_by}
 use Rattle.net_model.specs.Values.{PointValue, NetworkValue, point_at}
 use Rattle.net_model.specs.WellFormed.{IsGoodNear, IsGoodPin, IsGoodPoint, IsNet}
@@ -122,10 +121,10 @@ pub net_without_heavy : (design : DesignValue) → IsDesign design → ((p : ℕ
 net_without_heavy design h light = record {
   few = omega (arith, network_points design, few_points design h);
   each = λ p inside.
-    let there : p < length (point_nodes design) = omega (arith, network_points design) in
-    let P : ℕ → Type 0 = λ n. IsGoodPoint n p (point_at (network_of design).points p) in
-    let Q : PointValue → Type 0 = IsGoodPoint (length (point_nodes design)) p in
-    subst P (sym (network_points design)) (subst Q (sym (network_point design p there)) (point_good design p h (not_above (total_weight (point_value design p)) (λ more. light p (there, more))) there));
+      let there : p < length (point_nodes design) = omega (arith, network_points design) in
+      let P : ℕ → Type 0 = λ n. IsGoodPoint n p (point_at (network_of design).points p) in
+      let Q : PointValue → Type 0 = IsGoodPoint (length (point_nodes design)) p in
+      subst P (sym (network_points design)) (subst Q (sym (network_point design p there)) (point_good design p h (not_above (total_weight (point_value design p)) (λ more. light p (there, more))) there));
   core = h.core;
 } where
   not_above : (n : ℕ) → (2 ^ 40 < n → ⊥) → n ≤ 2 ^ 40

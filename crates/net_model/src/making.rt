@@ -1,9 +1,10 @@
 //! From a design to its network.
 
-ghost use Rattle.std.specs.Prelude.{◌≡◌, ℕ, ◌^◌, ◌<◌, ◌≤◌, length, map, All, MatchOption};
+ghost use Rattle.std.specs.Prelude.{◌≡◌, ℕ, ◌^◌, ◌<◌, ◌≤◌, length, map, All, IfOk, MatchOption};
 ghost use Rattle.book_design.specs.Faults.{IsFirst};
+ghost use Rattle.book_design.specs.WellFormed.{IsDesign};
 ghost use Rattle.net_model.specs.Answers.{Answers};
-ghost use Rattle.net_model.specs.Network.{total_weight, terms, IsTooWide};
+ghost use Rattle.net_model.specs.Network.{network_of, total_weight, terms, IsTooWide};
 ghost use Rattle.net_model.specs.Steps.{IsUnmarked, IsUnsummed, summed, IsHeavyPoint};
 ghost use Rattle.net_model.specs.Values.{point_entry, point_values};
 
@@ -15,7 +16,7 @@ use crate::merging::merge;
 use crate::model::Network;
 use crate::point::NetPoint;
 use book_design::Design;
-use std::alloc::Global;
+use std::alloc::{AllocError, Global};
 
 /// The most pair terms that the nets of a network have.
 const MOST_TERMS: u64 = 16_777_216;
@@ -48,12 +49,28 @@ fn network_of_few(
     requires few { terms design.now ≤ 2 ^ 24 }
     ensures { Answers design.now result }
 {
-    let mut points = joined_points(alloc, design, clique)?;
-    merge_entries(&mut points);
+    let core = design.core();
+    let points = summed_points(alloc, design, clique)?;
     match first_heavy(&points) {
         Some(point) => Err(NetError::Fault(NetFault::Heavy(point))),
-        None => Ok(Network::new(points, design.core())),
+        None => Ok(Network::new(points, core)),
     }
+}
+
+/// The points of the network of a design, whatever they weigh.
+fn summed_points(
+    alloc: Global,
+    design: &Design<'_>,
+    clique: &mut Clique,
+) -> Result<Vec<NetPoint>, AllocError>
+    requires valid { IsDesign design.now }
+    requires unmarked { IsUnmarked (length design.now.nodes) clique.old.seen.items }
+    ensures { IfOk result
+        (λ points. point_values points.items ≡ (network_of design.now).points) }
+{
+    let mut points = joined_points(alloc, design, clique)?;
+    merge_entries(&mut points);
+    Ok(points)
 }
 
 /// Puts the sum of the entries of each pair of points in their place.

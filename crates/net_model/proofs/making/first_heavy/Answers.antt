@@ -1,10 +1,5 @@
-use Rattle.std.proofs.Common.{◌≡◌, ◌<◌, length, sym, ◌∙◌, ap, subst, arith, below_more}
-use Rattle.std.proofs.lemmas.List.{length-map}
-use Rattle.std.proofs.lemmas.List.Elements.{All-get_or}
-use Rattle.net_model.specs.Values.{PointValue, point_at, point_entry, point_values}
-use Rattle.net_model.specs.Network.{total_weight}
-use Rattle.net_model.specs.Steps.{IsHeavyPoint}
-use Rattle.net_model.proofs.MakingPoints.{point_read, light_at, not_heavy}
+use Rattle.std.proofs.Common.{arith, below_more}
+use Rattle.net_model.proofs.MakingPoints.{light_at, not_heavy}
 use Rattle.net_model.proofs.making.first_heavy.Goals as goal
 
 pub total_weight-requires : goal.total_weight-requires
