@@ -3,3 +3,9 @@ mod MergingRuns
 pub mod CliqueNodes
 pub mod CliqueMarks
 pub mod CountingTerms
+mod Movable
+mod MakingPoints
+mod MakingNets
+mod MakingEntries
+mod MakingWell
+mod MakingNetwork

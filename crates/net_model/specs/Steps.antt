@@ -1,6 +1,6 @@
 -- The steps that make a network: the cliques of the nets, what they give each point, and the sums of it.
-use Rattle.std.specs.Prelude.{◌≡◌, ℕ, ◌<◌, Bool, false, not, ◌||◌, ◌==◌, List, [], length, sum_by, slice_index_or, Option, Some, None, if◌then◌else◌, All, Result, Ok, Err}
-use Rattle.std.specs.List.{filter_map, flat_map}
+use Rattle.std.specs.Prelude.{◌≡◌, ℕ, ◌^◌, ◌<◌, ◌≤◌, Bool, false, not, ◌||◌, ◌==◌, List, [], length, sum_by, slice_index_or, Option, Some, None, if◌then◌else◌, All, Result, Ok, Err}
+use Rattle.std.specs.List.{filter_map, flat_map, range_with_len}
 use Rattle.book_design.specs.declared.parts.Pin.{Pin}
 use Rattle.book_design.specs.Values.{NetValue, DesignValue}
 use Rattle.book_design.specs.Points.{is_movable, movable_before, site_count}
@@ -12,7 +12,7 @@ use Rattle.net_model.specs.declared.fault.NetError.{NetError}
 use Rattle.net_model.specs.declared.fault.NetError.TheVariants.{Fault, Memory}
 use Rattle.net_model.specs.declared.fault.NetFault.TheVariants.{NetTooWide}
 use Rattle.net_model.specs.Clique.{first_pins, share, has_node}
-use Rattle.net_model.specs.Network.{node_at, node_of, point_nodes, pins_in, terms, IsTooWide}
+use Rattle.net_model.specs.Network.{node_at, node_of, point_nodes, pins_in, total_weight, terms, IsTooWide}
 
 -- no node is marked as seen, of so many
 pub record IsUnmarked (nodes : ℕ) (seen : List Bool) : Type 0 where
@@ -64,3 +64,21 @@ weight_at near q = sum_by (λ entry. if entry.point == q then entry.weight else 
 -- a point with the sum of its entries, where that isn't 0
 abbrev pub as_sum : List Near → ℕ → Option Near
 as_sum near q = if weight_at near q == 0 then None else Some (record { point = q; weight = weight_at near q })
+
+-- an entry of a point, before the sums: of one of so many points, with a weight of at least 1
+pub record IsEntry (points : ℕ) (entry : Near) : Type 0 where
+  pub there : entry.point < points
+  pub positive : 1 ≤ entry.weight
+
+-- a point before the sums of its entries, which fit
+pub record IsUnsummed (points : ℕ) (point : PointValue) : Type 0 where
+  pub near : All (IsEntry points) point.near
+  pub light : total_weight point < 2 ^ 64
+
+-- the point with the sums of its entries
+abbrev pub summed : ℕ → PointValue → PointValue
+summed points point = record { near = filter_map (as_sum point.near) (range_with_len 0 points); pins = point.pins; area = point.area }
+
+-- one of these points is heavy
+abbrev pub IsHeavyPoint : List PointValue → ℕ → Type 0
+IsHeavyPoint points p = (p < length points) × (2 ^ 40 < total_weight (point_at points p))

@@ -23,3 +23,6 @@ pub use laws::one_network;
 pub use making::network;
 pub use model::Network;
 pub use parts::{FixedPin, Near};
+
+#[cfg(test)]
+mod tests;

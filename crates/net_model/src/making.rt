@@ -1,11 +1,28 @@
 //! From a design to its network.
 
+ghost use Rattle.std.specs.Prelude.{◌≡◌, ℕ, ◌^◌, ◌<◌, ◌≤◌, length, map, All, IfOk, MatchOption};
+ghost use Rattle.book_design.specs.Faults.{IsFirst};
+ghost use Rattle.book_design.specs.WellFormed.{IsDesign};
 ghost use Rattle.net_model.specs.Answers.{Answers};
+ghost use Rattle.net_model.specs.Network.{network_of, total_weight, terms, IsTooWide};
+ghost use Rattle.net_model.specs.Steps.{IsUnmarked, IsUnsummed, summed, IsHeavyPoint};
+ghost use Rattle.net_model.specs.Values.{point_entry, point_values};
 
-use crate::fault::NetError;
+use crate::clique::Clique;
+use crate::counting::count_terms;
+use crate::fault::{NetError, NetFault};
+use crate::joining::joined_points;
+use crate::merging::merge;
 use crate::model::Network;
+use crate::point::NetPoint;
 use book_design::Design;
-use std::alloc::Global;
+use std::alloc::{AllocError, Global};
+
+/// The most pair terms that the nets of a network have.
+const MOST_TERMS: u64 = 16_777_216;
+
+/// The most that the edges of a point weigh together.
+const MOST_WEIGHT: u64 = 1 << 40;
 
 /// The network of a design, or the first fault of its nets.
 ///
@@ -14,5 +31,81 @@ use std::alloc::Global;
 pub fn network(alloc: Global, design: &Design<'_>) -> Result<Network, NetError>
     ensures { Answers design.now result }
 {
-    Err(NetError::Memory)
+    let mut clique = Clique::new(alloc, design.nodes().len())?;
+    let terms = count_terms(design, &mut clique)?;
+    if terms > MOST_TERMS {
+        return Err(NetError::Fault(NetFault::TooManyEdges(terms)));
+    }
+    network_of_few(alloc, design, &mut clique)
+}
+
+/// The network of a design that has no net too many and none too wide, or its first heavy point.
+fn network_of_few(
+    alloc: Global,
+    design: &Design<'_>,
+    clique: &mut Clique,
+) -> Result<Network, NetError>
+    requires unmarked { IsUnmarked (length design.now.nodes) clique.old.seen.items }
+    requires narrow { (n : ℕ) → IsTooWide design.now n → ⊥ }
+    requires few { terms design.now ≤ 2 ^ 24 }
+    ensures { Answers design.now result }
+{
+    let core = design.core();
+    let points = summed_points(alloc, design, clique)?;
+    match first_heavy(&points) {
+        Some(point) => Err(NetError::Fault(NetFault::Heavy(point))),
+        None => Ok(Network::new(points, core)),
+    }
+}
+
+/// The points of the network of a design, whatever they weigh.
+fn summed_points(
+    alloc: Global,
+    design: &Design<'_>,
+    clique: &mut Clique,
+) -> Result<Vec<NetPoint>, AllocError>
+    requires valid { IsDesign design.now }
+    requires unmarked { IsUnmarked (length design.now.nodes) clique.old.seen.items }
+    ensures { IfOk result
+        (λ points. point_values points.items ≡ (network_of design.now).points) }
+{
+    let mut points = joined_points(alloc, design, clique)?;
+    merge_entries(&mut points);
+    Ok(points)
+}
+
+/// Puts the sum of the entries of each pair of points in their place.
+fn merge_entries(points: &mut [NetPoint])
+    requires { All (IsUnsummed (length points.old)) (point_values points.old) }
+    ensures { point_values points.new ≡ map (summed (length points.old)) (point_values points.old) }
+{
+    for point in points.iter_mut() {
+        merge(&mut point.near);
+    }
+}
+
+/// The first of the points whose total weight passes 2^40.
+fn first_heavy(points: &[NetPoint]) -> Option<u32>
+    requires few { length points.now < 2 ^ 32 }
+    requires light { All (λ point. total_weight point < 2 ^ 64) (point_values points.now) }
+    ensures { MatchOption result
+        ((p : ℕ) → IsHeavyPoint (point_values points.now) p → ⊥)
+        (IsFirst (IsHeavyPoint (point_values points.now))) }
+{
+    for (p, point) in points.iter().enumerate() {
+        if total_weight(point) > MOST_WEIGHT {
+            return Some(p as u32);
+        }
+    }
+    None
+}
+
+/// What the edges of a point weigh together.
+fn total_weight(point: &NetPoint) -> u64
+    requires { total_weight (point_entry point.now) < 2 ^ 64 }
+    ensures { result ≡ total_weight (point_entry point.now) }
+{
+    let near: u64 = point.near.iter().map(|near| near.weight).sum();
+    let pins: u64 = point.pins.iter().map(|pin| pin.weight).sum();
+    near + pins
 }

@@ -1,5 +1,5 @@
 ghost use Rattle.std.specs.Prelude.{◌≡◌, ◌<◌, length};
-ghost use Rattle.net_model.specs.Values.{point_at, point_entry};
+ghost use Rattle.net_model.specs.Values.{point_at, point_entry, point_values};
 ghost use Rattle.net_model.specs.WellFormed.{IsNet};
 
 use crate::parts::{FixedPin, Near};
@@ -26,6 +26,14 @@ impl Model for Network {
 }
 
 impl Network {
+    /// The network of these points.
+    pub(crate) fn new(points: Vec<NetPoint>, core: Core) -> Network
+        requires { IsNet (record { points = point_values points.items; core = core }) }
+        ensures { result ≡ record { points = point_values points.items; core = core } }
+    {
+        Network { points, core }
+    }
+
     /// How many points there are.
     pub fn points(&self) -> usize
         ensures points { result ≡ length self.now.points }
@@ -53,7 +61,6 @@ impl Network {
     }
 
     /// How many sites a point takes.
-
     pub fn area(&self, point: u32) -> u64
         requires { point < length self.now.points }
         ensures area { result ≡ (point_at self.now.points point).area }
