@@ -9,3 +9,4 @@ mod MakingNets
 mod MakingEntries
 mod MakingWell
 mod MakingNetwork
+mod MakingOrder

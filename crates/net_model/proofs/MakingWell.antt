@@ -24,6 +24,7 @@ use Rattle.net_model.proofs.Movable.{no_node, count_movable}
 use Rattle.net_model.proofs.CliqueNodes.{All_first}
 use Rattle.net_model.proofs.MakingNets.{anchor, node_of_point}
 use Rattle.net_model.proofs.MakingPoints.{no_point}
+use Rattle.net_model.proofs.MakingOrder.{near_ascending}
 
 -- ---- the neighbours
 
@@ -111,6 +112,7 @@ point_good design p h light inside =
     let node = good_node design (node_of design p) h own.there in
     record {
       near = near_good design (length (point_nodes design)) p 0 (length (point_nodes design)) (omega arith);
+      ascending = near_ascending design p;
       pins = recursion_from_All IsGoodPin (pins_of design p) (nets_good design design.nets (node_of design p) h h.nets);
       light = light;
       area = sites_bound (node_at design (node_of design p)).width design.pitch node.width_sign node.width.high h.pitch_sign;
