@@ -1,1 +1,2 @@
 mod Movable
+mod JoiningPins
