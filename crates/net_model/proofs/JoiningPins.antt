@@ -1,9 +1,9 @@
 -- What one pin of a net gives a point, and then another.
-use Rattle.std.proofs.Common.{◌≡◌, ◌≢◌, ℕ, ◌+◌, ◌<◌, Bool, true, false, not, ◌||◌, cond, eqb, List, [], ◌∷◌, ◌++◌, length, get_or, take, refl, sym, ◌∙◌, ap, append_assoc, arith}
+use Rattle.std.proofs.Common.{◌≡◌, ◌≢◌, ℕ, ◌+◌, ◌<◌, ◌≤◌, Bool, true, false, not, ◌||◌, cond, eqb, List, [], ◌∷◌, ◌++◌, length, get_or, take, refl, sym, ◌∙◌, ap, append_assoc, arith}
 use Rattle.std.specs.Prelude.{Option, Some, None}
 use Rattle.std.specs.List.{filter_map, cons_option}
 use Rattle.std.proofs.lemmas.Bool.{ne_eqb, eq-eqb, false≢true}
-use Rattle.std.proofs.lemmas.List.{append-nil, take_more, get_or-map, length-map}
+use Rattle.std.proofs.lemmas.List.{append-nil, take_more, take_all, get_or-map, length-map}
 use Rattle.std.proofs.lemmas.List.Elements.{filter_map-append}
 use Rattle.book_design.specs.declared.parts.Pin.{Pin}
 use Rattle.book_design.specs.declared.parts.Node.{Node}
@@ -54,3 +54,36 @@ pair_fixed design nodes weight pin d f near pins new area e inside fixed is push
     let at : f ≡ fixed_pin weight (node_at design pin.node) pin = is ∙ ap (λ node. fixed_pin weight node pin) (sym (node_is nodes design.nodes pin.node d e inside)) in
     let P : Bool → List FixedPin = λ b. pins ++ cons_option (cond b None (Some (fixed_pin weight (node_at design pin.node) pin))) [] in
     same_made near _ new _ area (near_none design weight i pin near fixed other) (pushed ∙ ap (λ g. pins ++ g ∷ []) at ∙ sym (ap P fixed))
+
+-- no pins, and one pin more
+pub paired_none : (design : DesignValue) (weight i : ℕ) (point : PointValue) → point ≡ paired_point design weight [] i point
+paired_none design weight i point = sym (same_made _ point.near _ point.pins point.area (append-nil point.near) (append-nil point.pins))
+
+paired_both : (design : DesignValue) (weight i : ℕ) (xs ys : List Pin) (point : PointValue)
+    → paired_point design weight ys i (paired_point design weight xs i point) ≡ paired_point design weight (xs ++ ys) i point
+paired_both design weight i xs ys point = same_made _ _ _ _ point.area
+    (append_assoc point.near (filter_map (paired_near design weight i) xs) (filter_map (paired_near design weight i) ys)
+     ∙ ap (λ zs. point.near ++ zs) (sym (filter_map-append (paired_near design weight i) xs ys)))
+    (append_assoc point.pins (filter_map (paired_pin design weight) xs) (filter_map (paired_pin design weight) ys)
+     ∙ ap (λ zs. point.pins ++ zs) (sym (filter_map-append (paired_pin design weight) xs ys)))
+
+pub paired_more : (design : DesignValue) (weight i : ℕ) (pins : List Pin) (k : ℕ) (d : Pin) (start old new : PointValue) → k < length pins
+    → old ≡ paired_point design weight (take k pins) i start → new ≡ paired_point design weight (get_or pins k d ∷ []) i old
+    → new ≡ paired_point design weight (take (k + 1) pins) i start
+paired_more design weight i pins k d start old new less before step =
+    step ∙ ap (paired_point design weight (get_or pins k d ∷ []) i) before
+    ∙ paired_both design weight i (take k pins) (get_or pins k d ∷ []) start
+    ∙ ap (λ xs. paired_point design weight xs i start) (sym (take_more pins k d less))
+
+-- a pin of the movable node itself gives its point nothing
+pub paired_self : (design : DesignValue) (weight i : ℕ) (pin : Pin) (point : PointValue) → is_movable (node_at design i) ≡ true → pin.node ≡ i
+    → point ≡ paired_point design weight (pin ∷ []) i point
+paired_self design weight i pin point movable same =
+    let P : Bool → List Near = λ b. point.near ++ cons_option (cond (b || not (is_movable (node_at design pin.node))) None (Some (record { point = movable_before design.nodes pin.node; weight = weight }))) [] in
+    let Q : Bool → List FixedPin = λ b. point.pins ++ cons_option (cond b None (Some (fixed_pin weight (node_at design pin.node) pin))) [] in
+    let here : is_movable (node_at design pin.node) ≡ true = ap (λ j. is_movable (node_at design j)) same ∙ movable in
+    sym (same_made _ point.near _ point.pins point.area (ap P (eq-eqb pin.node i same) ∙ append-nil point.near) (ap Q here ∙ append-nil point.pins))
+
+pub paired_all : (design : DesignValue) (weight i : ℕ) (pins : List Pin) (k : ℕ) (start point : PointValue) → length pins ≤ k
+    → point ≡ paired_point design weight (take k pins) i start → point ≡ paired_point design weight pins i start
+paired_all design weight i pins k start point end h = h ∙ ap (λ xs. paired_point design weight xs i start) (take_all k pins end)
