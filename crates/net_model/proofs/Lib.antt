@@ -1,2 +1,4 @@
 mod Movable
 mod JoiningPins
+pub mod CliqueNodes
+mod JoiningNets
