@@ -2,3 +2,4 @@ mod Movable
 mod JoiningPins
 pub mod CliqueNodes
 mod JoiningNets
+mod JoiningFresh

@@ -41,12 +41,15 @@ fn unjoined_points(alloc: Global, design: &Design<'_>) -> Result<Vec<NetPoint>, 
     ensures { IfOk result (λ points. AreJoined design.now [] (point_values points.items)) }
 {
     let mut points = Vec::new(alloc);
-    for point in 0..design.points() {
-        points.push(NetPoint {
-            near: Vec::new(alloc),
-            pins: Vec::new(alloc),
-            area: design.sites_of(point as u32),
-        })?;
+    for node in design.nodes() {
+        if !node.fixed {
+            let area = design.sites_of(points.len() as u32);
+            points.push(NetPoint {
+                near: Vec::new(alloc),
+                pins: Vec::new(alloc),
+                area,
+            })?;
+        }
     }
     Ok(points)
 }

@@ -1,26 +1,40 @@
-use Rattle.std.proofs.Common.{rules, ◌≡◌, ◌≢◌, ℕ, ◌/◌, ◌^◌, ◌<◌, true, [], ◌∷◌, length, All, IfOk, OnOk, pos, nat_abs, ◌+ℤ◌, ◌≤ℤ◌, ◌+◌, ◌-◌, ◌*◌, ◌≤◌, ◌%◌, Bool, false, nat_eq, nat_lt, List, ◌++◌, slice_index_or, slice_set, bit_and, bit_or, Fits, w8, w32, w64, Bor, MutBor}
-use Rattle.book_files.specs.Ranges.{IsInRange}
+use Rattle.std.proofs.Common.{◌≡◌, ◌<◌, ◌++◌, List, [], ◌∷◌, length, ap, sym, ◌∙◌, subst, refl, arith}
+use Rattle.std.proofs.lemmas.List.{map-append, length-map}
 use Rattle.book_design.specs.Values.{node_value}
-use Rattle.book_design.specs.Points.{is_movable}
-use Rattle.book_design.specs.WellFormed.{IsGoodPin}
-use Rattle.net_model.specs.Network.{node_at, point_nodes}
-use Rattle.net_model.specs.Values.{point_entry, point_values}
-use Rattle.net_model.specs.Steps.{IsUnmarked, AreJoined}
-use Rattle.net_model.specs.Joining.{AreDistinct, fixed_pin, paired_point, ArePaired}
+use Rattle.net_model.specs.Values.{PointValue, point_entry, point_values}
+use Rattle.net_model.proofs.JoiningFresh.{AreFresh, movable_is, node_inside, few_before, no_points, fresh_pushed, fresh_fixed, next_node, fresh_all}
 use Rattle.net_model.proofs.joining.unjoined_points.Goals as goal
+use Rattle.net_model.proofs.joining.unjoined_points.Goals.{then-not-node+in_ok-push, else-not-node}
 
--- src/joining.rt:44:5
-pub loop-point-init : goal.loop-point-init
-loop-point-init c = ?
+pub sites_of-area-requires : goal.sites_of-area-requires
+sites_of-area-requires c =
+    let values = c.args.design.now.nodes in
+    let nodes = c.nodes-node-items.result.now in
+    let movable = movable_is nodes values _ _ _ c.nodes-node-items.ensures.nodes c.loop-node-test.true c.if-not-node.true in
+    let a = c.len.ensures in
+    let b = c.loop-node.points.ok in
+    omega (arith, few_before values c.loop-node.node-index (node_inside nodes values _ c.nodes-node-items.ensures.nodes c.loop-node-test.true) movable, c.loop-node.invariant.all, length-map c.loop-node.points.items point_entry)
 
--- src/joining.rt:48:35
-pub overflow_cast-point : goal.overflow_cast-point
-overflow_cast-point c = ?
+pub loop-node-preserved : goal.loop-node-preserved
+loop-node-preserved c =
+    let design = c.args.design.now in
+    let nodes = c.nodes-node-items.result.now in
+    let inside = node_inside nodes design.nodes _ c.nodes-node-items.ensures.nodes c.loop-node-test.true in
+    elim c.if-not-node.branch [
+      | then-not-node+in_ok-push w ↦
+          let movable = movable_is nodes design.nodes _ _ _ c.nodes-node-items.ensures.nodes c.loop-node-test.true w.if-not-node.true in
+          let len : w.len.result ≡ length c.loop-node.points.items = w.len.ensures ∙ c.loop-node.points.ok.0 in
+          let area = w.sites_of-area.ensures c.loop-node.node-index (next_node design _ c.loop-node.points.items _ inside movable len c.loop-node.invariant) in
+          rw w.points-is (fresh_pushed design _ c.loop-node.points.items _ _ inside movable w.in_ok-push.ensures.items
+           (record { near = w.new.ensures.items; pins = w.new-then-not-node.ensures.items; area = area }) c.loop-node.invariant)
+      | else-not-node w ↦
+          let fixed = movable_is nodes design.nodes _ _ _ c.nodes-node-items.ensures.nodes c.loop-node-test.true w.if-not-node.false in
+          rw w.points-is (fresh_fixed design _ _ inside fixed c.loop-node.invariant)
+    ]
 
--- src/joining.rt:44:5
-pub loop-point-preserved : goal.loop-point-preserved
-loop-point-preserved c = ?
-
--- src/joining.rt:40:1
 pub returns : goal.returns
-returns c = ?
+returns c =
+    let values = c.args.design.now.nodes in
+    let nodes = c.nodes-node-items.result.now in
+    let end : c.loop-node.node-index ≡ length values = omega (arith, c.loop-node-test.false, c.loop-node.auto.node-index-end, length-map nodes node_value, ap length c.nodes-node-items.ensures.nodes) in
+    fresh_all c.args.design.now c.loop-node.node-index _ end c.loop-node.invariant
