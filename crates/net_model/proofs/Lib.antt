@@ -3,3 +3,4 @@ mod JoiningPins
 pub mod CliqueNodes
 mod JoiningNets
 mod JoiningFresh
+mod JoiningSteps
