@@ -1,5 +1,5 @@
 -- The points of the first so many nodes, which no net has given anything.
-use Rattle.std.proofs.Common.{◌≡◌, ◌⊎◌, ℕ, ◌+◌, ◌<◌, ◌≤◌, Bool, true, false, not, List, [], ◌∷◌, ◌++◌, length, get_or, map, refl, sym, ◌∙◌, ap, subst, inl, inr, arith, length-append}
+use Rattle.std.proofs.Common.{◌≡◌, ◌⊎◌, ℕ, ◌+◌, ◌<◌, Bool, true, false, not, List, [], ◌∷◌, ◌++◌, length, get_or, sym, ◌∙◌, ap, subst, inl, inr, arith, length-append}
 use Rattle.std.specs.List.{count_by}
 use Rattle.std.proofs.Math.Seq.{get_or-append_seam}
 use Rattle.std.proofs.lemmas.Bool.{cases_eq}
@@ -14,10 +14,7 @@ use Rattle.net_model.specs.Network.{node_at, node_of, point_nodes}
 use Rattle.net_model.specs.Steps.{IsJoined, AreJoined}
 use Rattle.net_model.proofs.Movable.{no_node, stands_at_point, count_movable}
 use Rattle.net_model.proofs.JoiningPins.{node_is}
-use Rattle.net_model.proofs.JoiningNets.{own_point}
-
-abbrev no_point : PointValue
-no_point = record { near = []; pins = []; area = 0 }
+use Rattle.net_model.proofs.JoiningNets.{no_point, own_point}
 
 -- as many points as movable nodes among the first
 pub record AreFresh (design : DesignValue) (index : ℕ) (points : List PointValue) : Type 0 where
@@ -81,7 +78,7 @@ fresh_fixed design index points inside fixed before = record {
 pub fresh_all : (design : DesignValue) (index : ℕ) (points : List PointValue) → index ≡ length design.nodes → AreFresh design index points → AreJoined design [] points
 fresh_all design index points end fresh =
     let many : length points ≡ length (point_nodes design) =
-        fresh.all ∙ ap (movable_before design.nodes) end ∙ sym (count_movable design.nodes (length design.nodes) (omega arith)) in
+    fresh.all ∙ ap (movable_before design.nodes) end ∙ sym (count_movable design.nodes (length design.nodes) (omega arith)) in
     record { all = many; each = λ p less. fresh.each p (omega (arith, many)) }
 
 -- one point more, as it lies in memory

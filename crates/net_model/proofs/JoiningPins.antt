@@ -1,8 +1,8 @@
 -- What one pin of a net gives a point, and then another.
-use Rattle.std.proofs.Common.{◌≡◌, ◌≢◌, ℕ, ◌+◌, ◌<◌, ◌≤◌, Bool, true, false, not, ◌||◌, cond, eqb, List, [], ◌∷◌, ◌++◌, length, get_or, take, refl, sym, ◌∙◌, ap, append_assoc, arith}
+use Rattle.std.proofs.Common.{◌≡◌, ◌≢◌, ℕ, ◌+◌, ◌<◌, ◌≤◌, Bool, true, false, not, ◌||◌, cond, List, [], ◌∷◌, ◌++◌, length, get_or, take, refl, sym, ◌∙◌, ap, append_assoc, arith}
 use Rattle.std.specs.Prelude.{Option, Some, None}
 use Rattle.std.specs.List.{filter_map, cons_option}
-use Rattle.std.proofs.lemmas.Bool.{ne_eqb, eq-eqb, false≢true}
+use Rattle.std.proofs.lemmas.Bool.{ne_eqb, eq-eqb}
 use Rattle.std.proofs.lemmas.List.{append-nil, take_more, take_all, get_or-map, length-map}
 use Rattle.std.proofs.lemmas.List.Elements.{filter_map-append}
 use Rattle.book_design.specs.declared.parts.Pin.{Pin}
@@ -13,7 +13,7 @@ use Rattle.net_model.specs.declared.parts.Near.{Near}
 use Rattle.net_model.specs.declared.parts.FixedPin.{FixedPin}
 use Rattle.net_model.specs.Values.{PointValue}
 use Rattle.net_model.specs.Network.{node_at}
-use Rattle.net_model.specs.Joining.{pin_at, fixed_pin, paired_near, paired_pin, paired_point}
+use Rattle.net_model.specs.Joining.{fixed_pin, paired_near, paired_pin, paired_point}
 use Rattle.net_model.proofs.Movable.{no_node}
 
 -- the node at a place, as it lies in memory
@@ -63,9 +63,9 @@ paired_both : (design : DesignValue) (weight i : ℕ) (xs ys : List Pin) (point 
     → paired_point design weight ys i (paired_point design weight xs i point) ≡ paired_point design weight (xs ++ ys) i point
 paired_both design weight i xs ys point = same_made _ _ _ _ point.area
     (append_assoc point.near (filter_map (paired_near design weight i) xs) (filter_map (paired_near design weight i) ys)
-     ∙ ap (λ zs. point.near ++ zs) (sym (filter_map-append (paired_near design weight i) xs ys)))
+    ∙ ap (λ zs. point.near ++ zs) (sym (filter_map-append (paired_near design weight i) xs ys)))
     (append_assoc point.pins (filter_map (paired_pin design weight) xs) (filter_map (paired_pin design weight) ys)
-     ∙ ap (λ zs. point.pins ++ zs) (sym (filter_map-append (paired_pin design weight) xs ys)))
+    ∙ ap (λ zs. point.pins ++ zs) (sym (filter_map-append (paired_pin design weight) xs ys)))
 
 pub paired_more : (design : DesignValue) (weight i : ℕ) (pins : List Pin) (k : ℕ) (d : Pin) (start old new : PointValue) → k < length pins
     → old ≡ paired_point design weight (take k pins) i start → new ≡ paired_point design weight (get_or pins k d ∷ []) i old

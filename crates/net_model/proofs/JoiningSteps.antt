@@ -1,7 +1,7 @@
 -- The points by the nets before one net, and behind it.
 use Rattle.std.proofs.Common.{◌≡◌, ℕ, ◌+◌, ◌-◌, ◌*◌, ◌/◌, ◌<◌, ◌≤◌, Bool, true, false, cond, List, [], ◌∷◌, ◌++◌, length, get_or, take, refl, sym, ◌∙◌, ap, subst, arith}
 use Rattle.std.specs.Prelude.{All, nat_eq, nat_lt}
-use Rattle.std.specs.List.{filter_map, flat_map, AllByRecursion}
+use Rattle.std.specs.List.{filter_map}
 use Rattle.std.proofs.lemmas.Bool.{ne_eqb}
 use Rattle.std.proofs.lemmas.List.{append-nil, take_more, take_all, get_or-map, length-map, flat_map_more}
 use Rattle.std.proofs.lemmas.List.Elements.{All-from_recursion}
@@ -15,9 +15,9 @@ use Rattle.net_model.specs.declared.parts.FixedPin.{FixedPin}
 use Rattle.net_model.specs.declared.point.NetPoint.{NetPoint}
 use Rattle.net_model.specs.Values.{PointValue, point_at, point_entry, point_values}
 use Rattle.net_model.specs.Clique.{first_pins, degree, share, has_node}
-use Rattle.net_model.specs.Network.{node_of, point_nodes, pins_in}
-use Rattle.net_model.specs.Steps.{IsUnmarked, nears_in, nears_by, pins_by, IsJoined, AreJoined}
-use Rattle.net_model.specs.Joining.{is_at, pin_at, AreDistinct, paired_near, paired_pin, paired_point, ArePaired}
+use Rattle.net_model.specs.Network.{node_of, pins_in}
+use Rattle.net_model.specs.Steps.{IsUnmarked, nears_in, nears_by, pins_by, AreJoined}
+use Rattle.net_model.specs.Joining.{is_at, AreDistinct, paired_near, paired_pin, paired_point, ArePaired}
 use Rattle.net_model.proofs.CliqueNodes.{first_new, joined_first, All_first}
 
 -- a net without a weight gives nothing
@@ -84,7 +84,7 @@ area_by_test design weight i pins point true = refl
 area_by_test design weight i pins point false = refl
 
 joined_share : (design : DesignValue) (nets : List NetValue) (net : NetValue) (old new : List PointValue) → 0 < share net → AreJoined design nets old
-    → ArePaired design (share net) (first_pins net.pins) (first_pins net.pins) old new → AreJoined design (nets ++ net ∷ []) new
+    → ArePaired design (share net) (first_pins net.pins) old new → AreJoined design (nets ++ net ∷ []) new
 joined_share design nets net old new heavy before paired = record {
   all = paired.all ∙ before.all;
   each = λ p less.
@@ -101,11 +101,11 @@ joined_share design nets net old new heavy before paired = record {
 }
 
 pub joined_paired : (design : DesignValue) (nets : List NetValue) (net : NetValue) (weight : ℕ) (members : List Pin) (old new : List PointValue) → 0 < weight
-    → weight ≡ share net → members ≡ first_pins net.pins → AreJoined design nets old → ArePaired design weight members members old new
+    → weight ≡ share net → members ≡ first_pins net.pins → AreJoined design nets old → ArePaired design weight members old new
     → AreJoined design (nets ++ net ∷ []) new
 joined_paired design nets net weight members old new heavy w m before paired =
-    let P : ℕ → Type 0 = λ k. ArePaired design k members members old new in
-    let Q : List Pin → Type 0 = λ pins. ArePaired design (share net) pins pins old new in
+    let P : ℕ → Type 0 = λ k. ArePaired design k members old new in
+    let Q : List Pin → Type 0 = λ pins. ArePaired design (share net) pins old new in
     joined_share design nets net old new (omega (arith, w)) before (subst Q m (subst P w paired))
 
 -- a net of the design, by its place
@@ -115,7 +115,7 @@ good_net design nets k net h e less item =
     let none : NetValue = record { weight = 0; pins = [] } in
     let P : NetValue → Type 0 = IsGoodNet (length design.nodes) in
     let at : get_or design.nets k none ≡ net_value net =
-        ap (λ xs. get_or xs k none) (sym e) ∙ get_or-map net_value nets k net none less ∙ ap net_value (sym item) in
+    ap (λ xs. get_or xs k none) (sym e) ∙ get_or-map net_value nets k net none less ∙ ap net_value (sym item) in
     subst P at (All-from_recursion P design.nets h.nets k none (omega (arith, ap length e, length-map nets net_value)))
 
 pub nets_more : (nets : List Net) (k : ℕ) (net : Net) → k < length nets → net ≡ get_or nets k net → take (k + 1) (net_values nets) ≡ take k (net_values nets) ++ net_value net ∷ []
@@ -153,11 +153,11 @@ unmarked_since nodes count before after e h now = let P : ℕ → Type 0 = λ n.
 -- the points behind one net more, as they lie in memory
 pub net_paired : (design : DesignValue) (nets : List Net) (k : ℕ) (net : Net) (weight : ℕ) (members : List Pin) (old lent new : List NetPoint) → k < length nets
     → net ≡ get_or nets k net → 0 < weight → weight ≡ share (net_value net) → members ≡ first_pins net.pins → lent ≡ old
-    → AreJoined design (take k (net_values nets)) (point_values old) → ArePaired design weight members members (point_values lent) (point_values new)
+    → AreJoined design (take k (net_values nets)) (point_values old) → ArePaired design weight members (point_values lent) (point_values new)
     → AreJoined design (take (k + 1) (net_values nets)) (point_values new)
 net_paired design nets k net weight members old lent new less item heavy w m is before paired =
     let P : List NetValue → Type 0 = λ xs. AreJoined design xs (point_values new) in
-    let Q : List NetPoint → Type 0 = λ xs. ArePaired design weight members members (point_values xs) (point_values new) in
+    let Q : List NetPoint → Type 0 = λ xs. ArePaired design weight members (point_values xs) (point_values new) in
     subst P (sym (nets_more nets k net less item))
     (joined_paired design (take k (net_values nets)) (net_value net) weight members (point_values old) (point_values new) heavy w m before (subst Q is paired))
 

@@ -43,8 +43,8 @@ paired_point design weight pins i point = record {
   area = point.area;
 }
 
--- Each point whose node has one of the pins `at` is in pairs with the nodes of all pins. The others stay as they were.
-pub record ArePaired (design : DesignValue) (weight : ℕ) (pins at : List Pin) (old new : List PointValue) : Type 0 where
+-- Each point whose node has one of the pins is in pairs with the nodes of all of them. The others stay as they were.
+pub record ArePaired (design : DesignValue) (weight : ℕ) (pins : List Pin) (old new : List PointValue) : Type 0 where
   pub all : length new ≡ length old
   pub each : (p : ℕ) → p < length (point_nodes design) → point_at new p
-      ≡ (if is_at at (node_of design p) then paired_point design weight pins (node_of design p) (point_at old p) else point_at old p)
+      ≡ (if is_at pins (node_of design p) then paired_point design weight pins (node_of design p) (point_at old p) else point_at old p)

@@ -1,6 +1,7 @@
 //! What the nets of a design give its points, one net after another.
 
-ghost use Rattle.std.specs.Prelude.{◌≡◌, ◌≢◌, ℕ, ◌/◌, ◌^◌, ◌<◌, true, [], ◌∷◌, length, All, IfOk, OnOk, pos, nat_abs, ◌+ℤ◌, ◌≤ℤ◌};
+ghost use Rattle.std.specs.Prelude.{◌≡◌, ◌≢◌, ℕ, ◌/◌, true, [], ◌∷◌, length};
+ghost use Rattle.std.specs.Prelude.{All, IfOk, OnOk, pos, nat_abs, ◌+ℤ◌, ◌≤ℤ◌};
 ghost use Rattle.book_files.specs.Ranges.{IsInRange};
 ghost use Rattle.book_design.specs.Values.{node_value};
 ghost use Rattle.book_design.specs.Points.{is_movable};
@@ -10,7 +11,7 @@ ghost use Rattle.net_model.specs.Values.{point_entry, point_values};
 ghost use Rattle.net_model.specs.Steps.{IsUnmarked, AreJoined};
 ghost use Rattle.net_model.specs.Joining.{AreDistinct, fixed_pin, paired_point, ArePaired};
 
-use crate::clique::{share, Clique};
+use crate::clique::{Clique, share};
 use crate::parts::{FixedPin, Near};
 use crate::point::NetPoint;
 use book_design::{Design, Node, Pin};
@@ -23,7 +24,8 @@ pub(crate) fn joined_points(
     clique: &mut Clique,
 ) -> Result<Vec<NetPoint>, AllocError>
     requires unmarked { IsUnmarked (length design.now.nodes) clique.old.seen.items }
-    ensures { IfOk result (λ points. AreJoined design.now design.now.nets (point_values points.items)) }
+    ensures { IfOk result (λ points. AreJoined design.now design.now.nets
+        (point_values points.items)) }
 {
     let mut points = unjoined_points(alloc, design)?;
     for net in design.nets() {
@@ -64,11 +66,13 @@ fn pair_members(
     requires good { All (IsGoodPin (length design.now.nodes)) members.now }
     requires distinct { AreDistinct members.now }
     requires counted { length points.old ≡ length (point_nodes design.now) }
-    ensures { OnOk result (ArePaired design.now weight members.now members.now (point_values points.old) (point_values points.new)) }
+    ensures { OnOk result (ArePaired design.now weight members.now
+        (point_values points.old) (point_values points.new)) }
 {
     for pin in members {
-        if let Some(point) = design.point_of(pin.node) {
-            pair_point(design, members, weight, pin.node, &mut points[point as usize])?;
+        if let Some(number) = design.point_of(pin.node) {
+            let point = &mut points[number as usize];
+            pair_point(design, members, weight, pin.node, point)?;
         }
     }
     Ok(())
@@ -84,7 +88,8 @@ fn pair_point(
 ) -> Result<(), AllocError>
     requires good { All (IsGoodPin (length design.now.nodes)) members.now }
     requires movable { is_movable (node_at design.now node) ≡ true }
-    ensures { OnOk result (point_entry point.new ≡ paired_point design.now weight members.now node (point_entry point.old)) }
+    ensures { OnOk result (point_entry point.new
+        ≡ paired_point design.now weight members.now node (point_entry point.old)) }
 {
     for pin in members {
         if pin.node != node {
@@ -94,15 +99,29 @@ fn pair_point(
     Ok(())
 }
 
-/// Gives a point a pair with the node of a pin: a neighbour where that is movable, a fixed pin where it is fixed.
-fn pair_with(design: &Design<'_>, pin: &Pin, weight: u64, point: &mut NetPoint) -> Result<(), AllocError>
+/// Gives a point a pair with a pin's node: a neighbour where that is movable, else a fixed pin.
+fn pair_with(
+    design: &Design<'_>,
+    pin: &Pin,
+    weight: u64,
+    point: &mut NetPoint,
+) -> Result<(), AllocError>
     requires good { IsGoodPin (length design.now.nodes) pin.now }
-    ensures { OnOk result ((i : ℕ) → pin.now.node ≢ i
-        → point_entry point.new ≡ paired_point design.now weight (pin.now ∷ []) i (point_entry point.old)) }
+    ensures { OnOk result ((i : ℕ) → pin.now.node ≢ i → point_entry point.new
+        ≡ paired_point design.now weight (pin.now ∷ []) i (point_entry point.old)) }
 {
     match design.point_of(pin.node) {
-        Some(other) => point.near.push(Near { point: other, weight })?,
-        None => point.pins.push(fixed_pin(&design.nodes()[pin.node as usize], pin, weight))?,
+        Some(other) => {
+            let near = Near {
+                point: other,
+                weight,
+            };
+            point.near.push(near)?;
+        }
+        None => {
+            let node = &design.nodes()[pin.node as usize];
+            point.pins.push(fixed_pin(node, pin, weight))?;
+        }
     }
     Ok(())
 }

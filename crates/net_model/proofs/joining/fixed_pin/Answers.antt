@@ -1,4 +1,4 @@
-use Rattle.std.proofs.Common.{◌≡◌, ℕ, ◌∙◌, ap, arith, rules, ◌/◌, ℤ, pos, nat_abs, ◌+ℤ◌, ◌≤ℤ◌, w64, to_z, of_z}
+use Rattle.std.proofs.Common.{◌≡◌, ℕ, ◌∙◌, ap, rules, ◌/◌, ℤ, pos, nat_abs, ◌+ℤ◌, w64, to_z, of_z}
 use mir.Val.{SFits}
 use Rattle.std.proofs.lemmas.Int.{ints, to_z-of_z}
 use Rattle.book_files.specs.Ranges.{IsInRange}

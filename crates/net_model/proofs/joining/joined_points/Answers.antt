@@ -1,4 +1,4 @@
-use Rattle.std.proofs.Common.{◌≡◌, ℕ, ◌<◌, ◌≤◌, List, length, ap, sym, ◌∙◌, subst, arith}
+use Rattle.std.proofs.Common.{◌≡◌, length, ap, ◌∙◌, arith}
 use Rattle.std.proofs.lemmas.List.{with_items_is}
 use Rattle.book_design.specs.Nets.{net_value}
 use Rattle.net_model.specs.Clique.{first_pins, degree}
@@ -43,9 +43,9 @@ loop-net-preserved c =
             let paired = w.in_ok-pair_members.ensures in
             let whole = with_items_is c.loop-net.points w.pair_members.new.points (same_many _ _ paired.all ∙ w.deref_mut.ensures.len) in
             rw (w.points-is, whole) (net_paired design nets c.loop-net.net-index net c.share-weight.result w.deref.result.now _ _ _ c.loop-net-test.true c.net-item.is
-             w.if-weight-gt0.true weight (w.deref.ensures.value ∙ pins) w.deref_mut.ensures.value c.loop-net.invariant.joined paired)
+            w.if-weight-gt0.true weight (w.deref.ensures.value ∙ pins) w.deref_mut.ensures.value c.loop-net.invariant.joined paired)
         | else-weight-gt0 w ↦
             rw w.points-is (net_none design nets c.loop-net.net-index net c.share-weight.result c.loop-net.points.items c.loop-net-test.true c.net-item.is
-             w.if-weight-gt0.false weight c.loop-net.invariant.joined)
+            w.if-weight-gt0.false weight c.loop-net.invariant.joined)
       ];
     }

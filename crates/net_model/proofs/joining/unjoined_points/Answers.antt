@@ -1,8 +1,8 @@
-use Rattle.std.proofs.Common.{◌≡◌, ◌<◌, ◌++◌, List, [], ◌∷◌, length, ap, sym, ◌∙◌, subst, refl, arith}
-use Rattle.std.proofs.lemmas.List.{map-append, length-map}
+use Rattle.std.proofs.Common.{◌≡◌, length, ap, ◌∙◌, arith}
+use Rattle.std.proofs.lemmas.List.{length-map}
 use Rattle.book_design.specs.Values.{node_value}
-use Rattle.net_model.specs.Values.{PointValue, point_entry, point_values}
-use Rattle.net_model.proofs.JoiningFresh.{AreFresh, movable_is, node_inside, few_before, no_points, fresh_pushed, fresh_fixed, next_node, fresh_all}
+use Rattle.net_model.specs.Values.{point_entry}
+use Rattle.net_model.proofs.JoiningFresh.{movable_is, node_inside, few_before, fresh_pushed, fresh_fixed, next_node, fresh_all}
 use Rattle.net_model.proofs.joining.unjoined_points.Goals as goal
 use Rattle.net_model.proofs.joining.unjoined_points.Goals.{then-not-node+in_ok-push, else-not-node}
 
@@ -26,7 +26,7 @@ loop-node-preserved c =
           let len : w.len.result ≡ length c.loop-node.points.items = w.len.ensures ∙ c.loop-node.points.ok.0 in
           let area = w.sites_of-area.ensures c.loop-node.node-index (next_node design _ c.loop-node.points.items _ inside movable len c.loop-node.invariant) in
           rw w.points-is (fresh_pushed design _ c.loop-node.points.items _ _ inside movable w.in_ok-push.ensures.items
-           (record { near = w.new.ensures.items; pins = w.new-then-not-node.ensures.items; area = area }) c.loop-node.invariant)
+          (record { near = w.new.ensures.items; pins = w.new-then-not-node.ensures.items; area = area }) c.loop-node.invariant)
       | else-not-node w ↦
           let fixed = movable_is nodes design.nodes _ _ _ c.nodes-node-items.ensures.nodes c.loop-node-test.true w.if-not-node.false in
           rw w.points-is (fresh_fixed design _ _ inside fixed c.loop-node.invariant)
