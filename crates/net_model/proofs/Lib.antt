@@ -10,3 +10,7 @@ mod MakingEntries
 mod MakingWell
 mod MakingNetwork
 mod MakingOrder
+mod JoiningPins
+mod JoiningNets
+mod JoiningFresh
+mod JoiningSteps
