@@ -1,5 +1,5 @@
 -- The neighbours of a point in the network of a design stand in ascending order.
-use Rattle.std.proofs.Common.{◌≡◌, ℕ, zero, suc, ◌+◌, ◌<◌, ◌≤◌, Bool, true, false, ◌||◌, eqb, List, [], ◌∷◌, length, get_or, map, subst, arith}
+use Rattle.std.proofs.Common.{◌≡◌, ℕ, zero, suc, ◌+◌, ◌<◌, ◌≤◌, Bool, true, false, ◌||◌, eqb, List, ◌∷◌, length, get_or, map, subst, arith}
 use Rattle.std.specs.Prelude.{None, Some, if◌then◌else◌}
 use Rattle.std.specs.List.{filter_map, range_with_len, cons_option}
 use Rattle.std.specs.List.Sorted.{IsStrictlyIncreasing}
@@ -23,6 +23,7 @@ with_first a xs h = record { low = low; rising = rising } where
   low : (k : ℕ) → k < length (a ∷ xs) → a ≤ get_or (a ∷ xs) k 0
   low zero inside = omega arith
   low (suc k) inside = omega (arith, h.low k (omega arith))
+
   rising : (k : ℕ) → k + 1 < length (a ∷ xs) → get_or (a ∷ xs) k 0 < get_or (a ∷ xs) (k + 1) 0
   rising zero inside = omega (arith, h.low 0 (omega arith))
   rising (suc k) inside =
