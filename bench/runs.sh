@@ -1,0 +1,24 @@
+# shellcheck shell=bash
+# What the scripts that run the whole command share; they source it. It makes a folder `$work` for the time of a script, and
+# in it the baseline `$by_hand`; `$program` is the proved program, which is made where it is missing.
+set -eu
+bench=$(cd "$(dirname "${BASH_SOURCE[0]}")" && pwd)
+work=$(mktemp -d)
+trap 'rm -rf "$work"' EXIT
+by_hand=$work/place_cells
+rustc --edition 2024 -C opt-level=3 -C target-cpu=x86-64-v2 -o "$by_hand" "$bench/place_cells.rs"
+program=$bench/../crates/proud_cli/out/proud_cli
+[ -x "$program" ] || (cd "$bench/../crates/proud_cli" && rt run >/dev/null </dev/null) || true
+[ -x "$program" ] || { echo "there is no proved program" >&2; exit 1; }
+
+# Runs a command: its seconds, and its seconds of processor time, go behind those of the runs of the same name.
+TIMEFORMAT='%R %U'
+run() {
+    local name=$1
+    shift
+    { time "$@" >"$work/$name.told" 2>"$work/$name.work" || true; } 2>>"$work/$name.seconds"
+}
+
+# The median of three runs of that name in milliseconds: of the time (1), or of the processor time (2).
+median() { awk -v column="$2" '{ print int($column * 1000 + 0.5) }' "$work/$1.seconds" | sort -n | sed -n 2p; }
+ratio() { awk -v a="$1" -v b="$2" 'BEGIN { if (b > 0) printf "%.2f", a / b; else printf "-" }'; }

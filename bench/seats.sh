@@ -1,0 +1,26 @@
+#!/usr/bin/env bash
+# Places a grid with 1, 2 and 4 seats, three times each with the proved program and with a crew by hand, in turn, compares what
+# they print byte for byte, and prints the medians in milliseconds, the speed-ups against one seat and the ratios. With fewer
+# than four processors it leaves out four seats. Usage: bench/seats.sh [SIDE], by default 100.
+. "$(dirname "$0")/runs.sh"
+side=${1-100}
+python3 "$bench/write_grid.py" "$work" "$side" "$side"
+counts="1 2 4"
+if [ "$(nproc)" -lt 4 ]; then
+    counts="1 2"
+    echo "$(nproc) processors: no more than two seats are shown"
+fi
+for _ in 1 2 3; do
+    for seats in $counts; do
+        run "proved.$seats" "$program" --seats "$seats" "$work/grid.aux"
+        run "by_hand.$seats" "$by_hand" --tell --seats "$seats" "$work/grid.aux"
+        cmp "$work/proved.$seats.told" "$work/by_hand.$seats.told"
+        cmp "$work/proved.$seats.told" "$work/proved.1.told"
+    done
+done
+for seats in $counts; do
+    a=$(median "proved.$seats" 1) b=$(median "by_hand.$seats" 1)
+    echo "$seats seats: proved $a ms, speed-up $(ratio "$(median proved.1 1)" "$a");" \
+        "by hand $b ms, speed-up $(ratio "$(median by_hand.1 1)" "$b"); ratio $(ratio "$a" "$b")"
+    sed 's/^/  by hand, /' "$work/by_hand.$seats.work"
+done
