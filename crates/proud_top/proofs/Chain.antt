@@ -382,16 +382,22 @@ ends files word before now names inputs (Ok text) a same last h =
     (for_told files (λ told accepted. record { names = names; inputs = inputs; accepted = accepted; reported = h }) a, same, last, record { inputs = inputs; reported = h })
 ends files word before now names inputs (Err (Refused (Design fault) name)) a same last h =
     (for_told files (λ told accepted. record { cause = record { names = names; inputs = inputs; accepted = accepted; faulty = h.faulty }; named = name_told told word name.items names inputs fault accepted h.named }) a, same, last)
-ends files word before now names inputs (Err (Refused (Net fault) name)) a same last h =
-    (for_told files (λ told accepted. record {
-      cause = record { names = names; inputs = inputs; design = h.design; accepted = accepted; joined = h.joined; faulty = h.refused.faulty };
-      named = fault_name_told told word name.items names inputs h.design fault accepted h.joined h.refused.named;
-    }) a, same, last)
-ends files word before now names inputs (Err (Refused (Unanchored point) name)) a same last h =
-    (for_told files (λ told accepted. record {
-      cause = record { names = names; inputs = inputs; design = h.design; network = h.refused.loose.network; accepted = accepted; joined = h.joined; made = h.refused.loose.made; first = h.refused.loose.first };
-      named = point_name_told told word name.items names inputs h.design point accepted h.joined h.refused.named;
-    }) a, same, last)
+ends files word before now names inputs (Err (Refused (Net fault) name)) a same last h = (
+  for_told files (λ told accepted. record {
+    cause = record { names = names; inputs = inputs; design = h.design; accepted = accepted; joined = h.joined; faulty = h.refused.faulty };
+    named = fault_name_told told word name.items names inputs h.design fault accepted h.joined h.refused.named;
+  }) a,
+  same,
+  last,
+)
+ends files word before now names inputs (Err (Refused (Unanchored point) name)) a same last h = (
+  for_told files (λ told accepted. record {
+    cause = record { names = names; inputs = inputs; design = h.design; network = h.refused.loose.network; accepted = accepted; joined = h.joined; made = h.refused.loose.made; first = h.refused.loose.first };
+    named = point_name_told told word name.items names inputs h.design point accepted h.joined h.refused.named;
+  }) a,
+  same,
+  last,
+)
 ends files word before now names inputs (Err (Refused (TooLong kind) name)) a same last h = absurd h
 ends files word before now names inputs (Err (Refused (Text kind fault) name)) a same last h = absurd h
 ends files word before now names inputs (Err (Unread kind)) a same last h = absurd h
