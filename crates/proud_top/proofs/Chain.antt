@@ -16,16 +16,19 @@ use Rattle.book_files.specs.Grammar.{Grammar, IsReading, IsFirstFault, Answers}
 use Rattle.book_files.specs.WeightRules.{weights_grammar}
 use Rattle.book_design.specs.declared.fault.DesignFault.{DesignFault}
 use Rattle.book_design.specs.Files.{Files}
+use Rattle.book_design.specs.Values.{DesignValue}
+use Rattle.book_design.specs.Answers.{IsJoined}
+use Rattle.net_model.specs.declared.fault.NetFault.{NetFault}
 use Rattle.proud_top.specs.declared.status.Refusal.{Refusal}
-use Rattle.proud_top.specs.declared.status.Refusal.TheVariants.{TooLong, Text, Design, NotBuilt}
+use Rattle.proud_top.specs.declared.status.Refusal.TheVariants.{TooLong, Text, Design, Net, Unanchored}
 use Rattle.proud_top.specs.declared.stop.Stop.{Stop}
 use Rattle.proud_top.specs.declared.stop.Stop.TheVariants.{Unread, Refused, Memory}
 use Rattle.proud_top.specs.Request.{beside}
 use Rattle.proud_top.specs.Order.{rank, name_of, place_of, weight_files}
 use Rattle.proud_top.specs.Accepted.{Reads, ReadsWeights, Accepts, IsAccepted, IsReached, IsFaultOf}
-use Rattle.proud_top.specs.Refused.{HasNodeNamed, IsNodeName, IsOfNets, node_of_fault}
+use Rattle.proud_top.specs.Refused.{HasNodeNamed, HasPointNamed, IsNodeName, node_of_fault, point_of_fault}
 use Rattle.proud_top.specs.Counts.{Counts, IsFaultAt, IsLast, last_kind}
-use Rattle.proud_top.specs.Steps.{IsText, BeginsOne, Loads, LoadsWeights, GivesWeights, IsTold, Faults, IsNameIn, Solves}
+use Rattle.proud_top.specs.Steps.{IsText, BeginsOne, Loads, LoadsWeights, GivesWeights, IsTold, Faults, IsNameIn, IsPointNamed, Solves}
 use Rattle.proud_top.specs.Stops.{IsStopped, Places}
 use Rattle.proud_top.proofs.Once.{rank_once}
 
@@ -229,10 +232,9 @@ stop_at : (files : Option (List FileEntry)) (word name : List ℕ) (before mid n
     → Went files before mid n → place_of names kind ≡ suc n → HasBefore files word names inputs kind → name_of word names kind ≡ Some name
     → Loads kind files name mid now (Err stop) → Places files word before now (Err stop)
 stop_at None word name before mid now kind names inputs n (Refused refusal node) w e b named h =
-    let N : Refusal → Type 0 = IsOfNets in (tt, h.2 ∙ w.faults, tt, subst N (sym h.0) tt)
+    (tt, h.2 ∙ w.faults, tt)
 stop_at (Some told) word name before mid now kind names inputs n (Refused refusal node) w e b named h =
     let P : Refusal → Type 0 = λ r. IsStopped told word r node.items in
-    let N : Refusal → Type 0 = IsOfNets in
     let L : Refusal → Type 0 = λ r. IsLast told word (last_kind r) before now in (
       subst P (sym h.0) (record { cause = record { name = name; place = suc n; reached = reached told word name kind names inputs n e b named; long = h.1 }; named = tt }),
       h.2 ∙ w.faults,
@@ -243,7 +245,6 @@ stop_at (Some told) word name before mid now kind names inputs n (Refused refusa
         grown = begun_more before.begun mid.begun now.begun n w.begun h.3.begun;
         present = h.3.missed ∙ there_missed told name h.1.text mid.missed h.1.there ∙ w.missed;
       }),
-      subst N (sym h.0) tt,
     )
 stop_at None word name before mid now kind names inputs n (Unread other) w e b named h =
     let R : ℕ → Type 0 = λ x. Rose x now.faults in
@@ -283,9 +284,8 @@ stop_text : (files : Option (List FileEntry)) (word name text : List ℕ) (befor
     → (n : ℕ) → Went files before now (suc n) → place_of names kind ≡ suc n → HasBefore files word names inputs kind → name_of word names kind ≡ Some name
     → IsText files name text → Faults kind text stop → Places files word before now (Err stop)
 stop_text None word name text before now kind names inputs (Refused refusal node) n w e b named held h =
-    let N : Refusal → Type 0 = IsOfNets in (tt, w.faults, tt, subst N (sym h.1) tt)
+    (tt, w.faults, tt)
 stop_text (Some told) word name text before now kind names inputs (Refused refusal node) n w e b named held h =
-    let N : Refusal → Type 0 = IsOfNets in
     let L : Refusal → Type 0 = λ r. IsLast told word (last_kind r) before now in
     let P : Refusal → Type 0 = λ r. IsStopped told word r node.items in (
       subst P (sym h.1) (record {
@@ -294,7 +294,6 @@ stop_text (Some told) word name text before now kind names inputs (Refused refus
       }),
       w.faults,
       subst L (sym h.1) (record { name = name; place = suc n; reached = reached told word name kind names inputs n e b named; grown = w.begun; present = w.missed }),
-      subst N (sym h.1) tt,
     )
 stop_text files word name text before now kind names inputs (Unread other) n w e b named held h = absurd h
 stop_text files word name text before now kind names inputs Memory n w e b named held h = w.faults
@@ -368,20 +367,37 @@ name_told told word name names inputs fault a h = by_node (node_of_fault fault) 
   by_node None k = tt
   by_node (Some n) k = record { names = names; nodes = inputs.nodes; node = k.0; aux_read = a.aux; nodes_read = a.nodes; there = k.1; named = k.2 }
 
+point_name_told : (told : List FileEntry) (word name : List ℕ) (names : AuxEntry) (inputs : Files) (design : DesignValue) (point : ℕ)
+    → Accepts told word names inputs → IsJoined inputs design → IsPointNamed design name point → HasPointNamed told word point name
+point_name_told told word name names inputs design point a j h = record { names = names; inputs = inputs; design = design; i = h.i; accepted = a; joined = j; node = h.node; named = h.named }
+
+fault_name_told : (told : List FileEntry) (word name : List ℕ) (names : AuxEntry) (inputs : Files) (design : DesignValue) (fault : NetFault)
+    → Accepts told word names inputs → IsJoined inputs design → IfSome (point_of_fault fault) (IsPointNamed design name) → IsNodeName told word (Net fault) name
+fault_name_told told word name names inputs design fault a j h = for_told (point_of_fault fault) (λ point k. point_name_told told word name names inputs design point a j k) h
+
 -- what the records make ends the run
 pub ends : (files : Option (List FileEntry)) (word : List ℕ) (before now : Counts) (names : AuxEntry) (inputs : Files) (result : Result (Vec ℕ Global) Stop)
     → IfSome files (λ told. Accepts told word names inputs) → now.faults ≡ before.faults → IfSome files (λ told. IsLast told word Scl before now) → Solves inputs result → Places files word before now result
 ends files word before now names inputs (Ok text) a same last h =
     (for_told files (λ told accepted. record { names = names; inputs = inputs; accepted = accepted; reported = h }) a, same, last, record { inputs = inputs; reported = h })
 ends files word before now names inputs (Err (Refused (Design fault) name)) a same last h =
-    (for_told files (λ told accepted. record { cause = record { names = names; inputs = inputs; accepted = accepted; faulty = h.faulty }; named = name_told told word name.items names inputs fault accepted h.named }) a, same, last, tt)
-ends files word before now names inputs (Err (Refused (NotBuilt Nets) name)) a same last h =
-    (for_told files (λ told accepted. record { cause = record { names = names; inputs = inputs; design = h.design; accepted = accepted; joined = h.joined; unbuilt = h.unbuilt }; named = tt }) a, same, last, refl)
-ends files word before now names inputs (Err (Refused (NotBuilt Aux) name)) a same last h = absurd h
-ends files word before now names inputs (Err (Refused (NotBuilt Nodes) name)) a same last h = absurd h
-ends files word before now names inputs (Err (Refused (NotBuilt Wts) name)) a same last h = absurd h
-ends files word before now names inputs (Err (Refused (NotBuilt Pl) name)) a same last h = absurd h
-ends files word before now names inputs (Err (Refused (NotBuilt Scl) name)) a same last h = absurd h
+    (for_told files (λ told accepted. record { cause = record { names = names; inputs = inputs; accepted = accepted; faulty = h.faulty }; named = name_told told word name.items names inputs fault accepted h.named }) a, same, last)
+ends files word before now names inputs (Err (Refused (Net fault) name)) a same last h = (
+  for_told files (λ told accepted. record {
+    cause = record { names = names; inputs = inputs; design = h.design; accepted = accepted; joined = h.joined; faulty = h.refused.faulty };
+    named = fault_name_told told word name.items names inputs h.design fault accepted h.joined h.refused.named;
+  }) a,
+  same,
+  last,
+)
+ends files word before now names inputs (Err (Refused (Unanchored point) name)) a same last h = (
+  for_told files (λ told accepted. record {
+    cause = record { names = names; inputs = inputs; design = h.design; network = h.refused.loose.network; accepted = accepted; joined = h.joined; made = h.refused.loose.made; first = h.refused.loose.first };
+    named = point_name_told told word name.items names inputs h.design point accepted h.joined h.refused.named;
+  }) a,
+  same,
+  last,
+)
 ends files word before now names inputs (Err (Refused (TooLong kind) name)) a same last h = absurd h
 ends files word before now names inputs (Err (Refused (Text kind fault) name)) a same last h = absurd h
 ends files word before now names inputs (Err (Unread kind)) a same last h = absurd h

@@ -1,9 +1,10 @@
 -- A design is refused by one cause at most, and by none where it is placed.
-use Rattle.std.proofs.Common.{◌≡◌, ◌<◌, ◌≤◌, ℕ, List, length, refl, sym, ◌∙◌, ap, subst, arith}
+use Rattle.std.proofs.Common.{◌≡◌, ◌⊎◌, ◌<◌, ◌≤◌, ℕ, List, length, refl, sym, ◌∙◌, ap, subst, inl, inr, arith}
 use Rattle.std.specs.Prelude.{Some}
+use Rattle.std.proofs.lemmas.Bool.{cases_order}
+use Rattle.std.proofs.lemmas.List.{length-map}
 use Rattle.book_outer.specs.Files.{FileEntry, content}
 use Rattle.book_files.specs.declared.records.FileKind.{FileKind}
-use Rattle.book_files.specs.declared.records.FileKind.TheVariants.{Aux, Nodes, Nets, Wts, Pl, Scl}
 use Rattle.book_files.specs.declared.fault.TextFault.{TextFault}
 use Rattle.book_files.specs.Entries.{AuxEntry}
 use Rattle.book_files.specs.Loading.{most_bytes}
@@ -12,30 +13,40 @@ use Rattle.book_design.specs.Files.{Files}
 use Rattle.book_design.specs.Values.{DesignValue}
 use Rattle.book_design.specs.Faults.{IsFirstFault}
 use Rattle.book_design.specs.Answers.{IsJoined}
-use Rattle.narrow_system.specs.NarrowSystem.{IsUnbuilt}
+use Rattle.pad_reach.specs.Chain.{Joint, HasChain}
+use Rattle.pad_reach.specs.Reaches.{IsFirstUnanchored}
+use Rattle.net_model.specs.declared.fault.NetFault.{NetFault}
+use Rattle.net_model.specs.Values.{NetworkValue}
+use Rattle.net_model.specs.Network.{IsNetwork, IsFirstFault as IsFirstNetFault}
+use Rattle.net_model.specs.Webs.{joints_of}
 use Rattle.proud_top.specs.declared.status.Refusal.{Refusal}
-use Rattle.proud_top.specs.declared.status.Refusal.TheVariants.{TooLong, Text, Design, NotBuilt}
+use Rattle.proud_top.specs.declared.status.Refusal.TheVariants.{TooLong, Text, Design, Net, Unanchored}
 use Rattle.proud_top.specs.Accepted.{Accepts, IsFaultOf}
-use Rattle.proud_top.specs.Refused.{IsTooLong, IsBadText, IsDesignFault, IsNotBuilt, IsRefusedAs}
+use Rattle.proud_top.specs.Refused.{IsTooLong, IsBadText, IsRefusedAs}
 use Rattle.proud_top.proofs.Once.{OneAnswer, long_stops, bad_stops, reached_once, stops_once, accepts_all, accepts_once, fault_once}
+
+-- the cause in the nets of a design
+pub data NetCause (design : DesignValue) (refusal : Refusal) : Type 0 where
+  faulty : (fault : NetFault) → refusal ≡ Net fault → IsFirstNetFault design fault → NetCause design refusal
+  loose : (point : ℕ) (network : NetworkValue) → refusal ≡ Unanchored point → IsNetwork design network → IsFirstUnanchored (joints_of network) point → NetCause design refusal
+
+-- the cause in what the files make
+pub data JoinCause (inputs : Files) (refusal : Refusal) : Type 0 where
+  unjoined : (fault : DesignFault) → refusal ≡ Design fault → IsFirstFault inputs fault → JoinCause inputs refusal
+  joined : (design : DesignValue) → IsJoined inputs design → NetCause design refusal → JoinCause inputs refusal
 
 -- the cause of a refusal, by its kind
 pub data Cause (files : List FileEntry) (word : List ℕ) (refusal : Refusal) : Type 0 where
   long : (kind : FileKind) → refusal ≡ TooLong kind → IsTooLong files word kind → Cause files word refusal
   bad : (kind : FileKind) (fault : TextFault) → refusal ≡ Text kind fault → IsBadText files word kind fault → Cause files word refusal
-  joined : (fault : DesignFault) → refusal ≡ Design fault → IsDesignFault files word fault → Cause files word refusal
-  unbuilt : refusal ≡ NotBuilt Nets → IsNotBuilt files word → Cause files word refusal
+  accepted : (names : AuxEntry) (inputs : Files) → Accepts files word names inputs → JoinCause inputs refusal → Cause files word refusal
 
 open_cause : (files : List FileEntry) (word : List ℕ) (refusal : Refusal) → IsRefusedAs files word refusal → Cause files word refusal
 open_cause files word (TooLong kind) h = long kind refl h
 open_cause files word (Text kind fault) h = bad kind fault refl h
-open_cause files word (Design fault) h = joined fault refl h
-open_cause files word (NotBuilt Nets) h = unbuilt refl h
-open_cause files word (NotBuilt Aux) h = absurd h
-open_cause files word (NotBuilt Nodes) h = absurd h
-open_cause files word (NotBuilt Wts) h = absurd h
-open_cause files word (NotBuilt Pl) h = absurd h
-open_cause files word (NotBuilt Scl) h = absurd h
+open_cause files word (Design fault) h = accepted h.names h.inputs h.accepted (unjoined fault refl h.faulty)
+open_cause files word (Net fault) h = accepted h.names h.inputs h.accepted (joined h.design h.joined (faulty fault refl h.faulty))
+open_cause files word (Unanchored point) h = accepted h.names h.inputs h.accepted (joined h.design h.joined (loose point h.network refl h.made h.first))
 
 one_text : (a b : List ℕ) → Some a ≡ Some b → a ≡ b
 one_text a b e = cc
@@ -67,34 +78,68 @@ one_bad one files word a b f g h k =
     let faults : f ≡ g = fault_once one b k.text f g (subst F same m.faulty) k.faulty in
     cc
 
--- the files together have one first fault, and where they do they make no design
-one_design_fault : OneAnswer → (files : List FileEntry) (word : List ℕ) (f g : DesignFault) → IsDesignFault files word f → IsDesignFault files word g → f ≡ g
-one_design_fault one files word f g h k =
-    let same : h.inputs ≡ k.inputs = accepts_once one files word h.names k.names h.inputs k.inputs h.accepted k.accepted in
-    let P : Files → Type 0 = λ inputs. IsFirstFault inputs f in
-    (one.join k.inputs).one_fault f g (subst P same h.faulty) k.faulty
+-- a web has one first point without a chain
+one_unanchored : (web : List Joint) (p q : ℕ) → IsFirstUnanchored web p → IsFirstUnanchored web q → p ≡ q
+one_unanchored web p q h k = by_order (cases_order p q) where
+  by_order : (p ≡ q) ⊎ ((p < q) ⊎ (q < p)) → p ≡ q
+  by_order (inl same) = same
+  by_order (inr (inl before)) = absurd (h.none (k.before p before))
+  by_order (inr (inr behind)) = absurd (k.none (h.before q behind))
 
-joined_or_faulty : OneAnswer → (files : List FileEntry) (word : List ℕ) (names : AuxEntry) (inputs : Files) (design : DesignValue) (fault : DesignFault)
-    → Accepts files word names inputs → IsJoined inputs design → IsDesignFault files word fault → ⊥
-joined_or_faulty one files word names inputs design fault h joins k =
-    let same : inputs ≡ k.inputs = accepts_once one files word names k.names inputs k.inputs h k.accepted in
-    let P : Files → Type 0 = λ x. IsJoined x design in
-    (one.join k.inputs).not_both design fault (subst P same joins) k.faulty
+-- in a network with a chain from each point there is none
+no_unanchored : (network : NetworkValue) (p : ℕ) → ((q : ℕ) → q < length network.points → HasChain (joints_of network) q) → IsFirstUnanchored (joints_of network) p → ⊥
+no_unanchored network p chains h = h.none (chains p (rw length-map at h.there))
 
--- files that make a design which is built are refused for none
-pub placed_or_refused : OneAnswer → (files : List FileEntry) (word : List ℕ) (names : AuxEntry) (inputs : Files) (design : DesignValue) (refusal : Refusal)
-    → Accepts files word names inputs → IsJoined inputs design → (IsUnbuilt design → ⊥) → IsRefusedAs files word refusal → ⊥
-placed_or_refused one files word names inputs design refusal h joins built k = by_cause (open_cause files word refusal k) where
+-- the nets of a design give one cause
+one_net_cause : OneAnswer → (design : DesignValue) (a b : Refusal) → NetCause design a → NetCause design b → a ≡ b
+one_net_cause one design a b (faulty f e h) (faulty g d k) = e ∙ ap Net ((one.network design).one_fault f g h k) ∙ sym d
+one_net_cause one design a b (faulty f e h) (loose q network d made k) = absurd ((one.network design).not_both network f made h)
+one_net_cause one design a b (loose p network e made h) (faulty g d k) = absurd ((one.network design).not_both network g made k)
+one_net_cause one design a b (loose p m e made h) (loose q n d same k) =
+    let networks : m ≡ n = (one.network design).one_network m n made same in
+    let P : NetworkValue → Type 0 = λ network. IsFirstUnanchored (joints_of network) p in
+    e ∙ ap Unanchored (one_unanchored (joints_of n) p q (subst P networks h) k) ∙ sym d
+
+-- and none where a chain leads from each point to a pad
+no_net_cause : OneAnswer → (design : DesignValue) (network : NetworkValue) (refusal : Refusal)
+    → IsNetwork design network → ((p : ℕ) → p < length network.points → HasChain (joints_of network) p) → NetCause design refusal → ⊥
+no_net_cause one design network refusal made chains (faulty f e h) = (one.network design).not_both network f made h
+no_net_cause one design network refusal made chains (loose p n e same h) =
+    let networks : n ≡ network = (one.network design).one_network n network same made in
+    let P : NetworkValue → Type 0 = λ x. IsFirstUnanchored (joints_of x) p in
+    no_unanchored network p chains (subst P networks h)
+
+-- what the files make gives one cause
+one_join_cause : OneAnswer → (inputs : Files) (a b : Refusal) → JoinCause inputs a → JoinCause inputs b → a ≡ b
+one_join_cause one inputs a b (unjoined f e h) (unjoined g d k) = e ∙ ap Design ((one.join inputs).one_fault f g h k) ∙ sym d
+one_join_cause one inputs a b (unjoined f e h) (joined design j k) = absurd ((one.join inputs).not_both design f j h)
+one_join_cause one inputs a b (joined design j h) (unjoined g d k) = absurd ((one.join inputs).not_both design g j k)
+one_join_cause one inputs a b (joined x j h) (joined y i k) =
+    let designs : x ≡ y = (one.join inputs).one_design x y j i in
+    let P : DesignValue → Type 0 = λ design. NetCause design a in
+    one_net_cause one y a b (subst P designs h) k
+
+-- and none where they make such a design
+no_join_cause : OneAnswer → (inputs : Files) (design : DesignValue) (network : NetworkValue) (refusal : Refusal) → IsJoined inputs design
+    → IsNetwork design network → ((p : ℕ) → p < length network.points → HasChain (joints_of network) p) → JoinCause inputs refusal → ⊥
+no_join_cause one inputs design network refusal joins made chains (unjoined f e h) = (one.join inputs).not_both design f joins h
+no_join_cause one inputs design network refusal joins made chains (joined y i k) =
+    let designs : y ≡ design = (one.join inputs).one_design y design i joins in
+    let P : DesignValue → Type 0 = λ x. NetCause x refusal in
+    no_net_cause one design network refusal made chains (subst P designs k)
+
+-- files that make a design in which a chain leads from each point to a pad are refused for none
+pub placed_or_refused : OneAnswer → (files : List FileEntry) (word : List ℕ) (names : AuxEntry) (inputs : Files) (design : DesignValue) (network : NetworkValue) (refusal : Refusal)
+    → Accepts files word names inputs → IsJoined inputs design → IsNetwork design network → ((p : ℕ) → p < length network.points → HasChain (joints_of network) p)
+    → IsRefusedAs files word refusal → ⊥
+placed_or_refused one files word names inputs design network refusal h joins made chains k = by_cause (open_cause files word refusal k) where
   by_cause : Cause files word refusal → ⊥
   by_cause (long kind e l) = accepts_all one files word names inputs kind h (long_stops files word kind l)
   by_cause (bad kind fault e b) = accepts_all one files word names inputs kind h (bad_stops files word kind fault b)
-  by_cause (joined fault e d) = joined_or_faulty one files word names inputs design fault h joins d
-  by_cause (unbuilt e n) =
-      let same : inputs ≡ n.inputs = accepts_once one files word names n.names inputs n.inputs h n.accepted in
-      let P : Files → Type 0 = λ x. IsJoined x design in
-      let designs : n.design ≡ design = (one.join n.inputs).one_design n.design design n.joined (subst P same joins) in
-      let U : DesignValue → Type 0 = λ x. IsUnbuilt x in
-      built (subst U designs n.unbuilt)
+  by_cause (accepted other given a c) =
+      let same : given ≡ inputs = accepts_once one files word other names given inputs a h in
+      let P : Files → Type 0 = λ x. JoinCause x refusal in
+      no_join_cause one inputs design network refusal joins made chains (subst P same c)
 
 -- a design is refused by one cause at most
 pub one_refusal : OneAnswer → (files : List FileEntry) (word : List ℕ) (a b : Refusal) → IsRefusedAs files word a → IsRefusedAs files word b → a ≡ b
@@ -102,17 +147,13 @@ one_refusal one files word a b h k = both (open_cause files word a h) (open_caus
   both : Cause files word a → Cause files word b → a ≡ b
   both (long x e l) (long y d m) = e ∙ ap TooLong (stops_once one files word x y (long_stops files word x l) (long_stops files word y m)) ∙ sym d
   both (bad x f e l) (bad y g d m) = e ∙ one_bad one files word x y f g l m ∙ sym d
-  both (joined f e l) (joined g d m) = e ∙ ap Design (one_design_fault one files word f g l m) ∙ sym d
-  both (unbuilt e l) (unbuilt d m) = e ∙ sym d
   both (long x e l) (bad y g d m) = absurd (long_or_bad one files word x y g l m)
   both (bad x f e l) (long y d m) = absurd (long_or_bad one files word y x f m l)
-  both (long x e l) (joined g d m) = absurd (accepts_all one files word m.names m.inputs x m.accepted (long_stops files word x l))
-  both (long x e l) (unbuilt d m) = absurd (accepts_all one files word m.names m.inputs x m.accepted (long_stops files word x l))
-  both (bad x f e l) (joined g d m) = absurd (accepts_all one files word m.names m.inputs x m.accepted (bad_stops files word x f l))
-  both (bad x f e l) (unbuilt d m) = absurd (accepts_all one files word m.names m.inputs x m.accepted (bad_stops files word x f l))
-  both (joined f e l) (long y d m) = absurd (accepts_all one files word l.names l.inputs y l.accepted (long_stops files word y m))
-  both (unbuilt e l) (long y d m) = absurd (accepts_all one files word l.names l.inputs y l.accepted (long_stops files word y m))
-  both (joined f e l) (bad y g d m) = absurd (accepts_all one files word l.names l.inputs y l.accepted (bad_stops files word y g m))
-  both (unbuilt e l) (bad y g d m) = absurd (accepts_all one files word l.names l.inputs y l.accepted (bad_stops files word y g m))
-  both (joined f e l) (unbuilt d m) = absurd (joined_or_faulty one files word m.names m.inputs m.design f m.accepted m.joined l)
-  both (unbuilt e l) (joined g d m) = absurd (joined_or_faulty one files word l.names l.inputs l.design g l.accepted l.joined m)
+  both (long x e l) (accepted names inputs m c) = absurd (accepts_all one files word names inputs x m (long_stops files word x l))
+  both (bad x f e l) (accepted names inputs m c) = absurd (accepts_all one files word names inputs x m (bad_stops files word x f l))
+  both (accepted names inputs l c) (long y d m) = absurd (accepts_all one files word names inputs y l (long_stops files word y m))
+  both (accepted names inputs l c) (bad y g d m) = absurd (accepts_all one files word names inputs y l (bad_stops files word y g m))
+  both (accepted m x l c) (accepted n y i d) =
+      let same : x ≡ y = accepts_once one files word m n x y l i in
+      let P : Files → Type 0 = λ inputs. JoinCause inputs a in
+      one_join_cause one y a b (subst P same c) d

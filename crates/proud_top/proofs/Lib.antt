@@ -3,3 +3,5 @@ mod Once
 mod Clash
 mod Chain
 mod Outcomes
+mod Points
+mod Reporting

@@ -16,13 +16,15 @@ use Rattle.book_files.specs.PlaceRules.{places_grammar}
 use Rattle.book_files.specs.RowRules.{rows_grammar}
 use Rattle.book_files.specs.Loading.{most_bytes}
 use Rattle.book_design.specs.Files.{Files}
+use Rattle.book_design.specs.Values.{DesignValue}
 use Rattle.book_design.specs.Answers.{HasOneJoin}
+use Rattle.net_model.specs.Answers.{HasOneNetwork}
 use Rattle.proud_top.specs.Request.{beside}
 use Rattle.proud_top.specs.Order.{rank, name_of}
 use Rattle.proud_top.specs.Accepted.{Reads, ReadsWeights, Accepts, IsAccepted, IsReached, IsFaultOf}
 use Rattle.proud_top.specs.Refused.{IsTooLong, IsBadText}
 
--- what the laws of the readers and of the join say
+-- what the laws of the readers, of the join and of the network say
 pub record OneAnswer : Type 0 where
   pub aux : (text : List ℕ) → HasOneAnswer aux_grammar text
   pub nodes : (text : List ℕ) → HasOneAnswer nodes_grammar text
@@ -31,6 +33,7 @@ pub record OneAnswer : Type 0 where
   pub pl : (text : List ℕ) → HasOneAnswer places_grammar text
   pub scl : (text : List ℕ) → HasOneAnswer rows_grammar text
   pub join : (files : Files) → HasOneJoin files
+  pub network : (design : DesignValue) → HasOneNetwork design
 
 one_text : (a b : List ℕ) → Some a ≡ Some b → a ≡ b
 one_text a b e = cc

@@ -3,38 +3,20 @@ use Rattle.std.specs.Prelude.{◌≡◌, ◌⊎◌, ℕ, List, [], take, Option,
 use Rattle.std.specs.Io.KnownBytes.{Appends}
 use Rattle.book_outer.specs.Cause.{Rose}
 use Rattle.book_outer.specs.Files.{FileEntry}
-use Rattle.relax_system.specs.Extremal.{IsLeast, IsGreatest}
 use Rattle.book_files.specs.declared.records.FileKind.{FileKind}
-use Rattle.book_files.specs.Entries.{AuxEntry}
-use Rattle.book_design.specs.Files.{Files}
-use Rattle.book_design.specs.Values.{DesignValue}
-use Rattle.book_design.specs.Answers.{IsJoined}
-use Rattle.narrow_system.specs.NarrowSystem.{IsUnbuilt, system_of}
-use Rattle.proud_top.specs.Stops.{IsSomeReport}
+use Rattle.proud_top.specs.Stops.{IsReportOf, IsSomeReport}
 use Rattle.proud_top.specs.declared.status.Refusal.{Refusal}
 use Rattle.proud_top.specs.Lines.{usage_line, cannot_read_line, refusal_line}
-use Rattle.proud_top.specs.Report.{report_of}
 use Rattle.proud_top.specs.Request.{requested}
-use Rattle.proud_top.specs.Accepted.{Accepts}
-use Rattle.proud_top.specs.Refused.{IsRefused, IsNodeNameOf, IsOfNets}
+use Rattle.proud_top.specs.Refused.{IsRefused, IsNodeNameOf}
 use Rattle.proud_top.specs.Counts.{Counts, IsFaultPlace}
 
--- The text is the report of the design that the accepted files make: a line per point, with the least and the greatest
--- vector of its system.
+-- The text is the report of the design that the accepted files make: a line per point, with the least and the greatest vector
+-- of each axis.
 pub record IsReport (files : List FileEntry) (words : List (List ℕ)) (text : List ℕ) : Type 0 where
   pub word : List ℕ
   pub asked : requested words ≡ Some word
-  pub names : AuxEntry
-  pub inputs : Files
-  pub design : DesignValue
-  pub accepted : Accepts files word names inputs
-  pub joined : IsJoined inputs design
-  pub built : IsUnbuilt design → ⊥
-  pub lo : List ℕ
-  pub hi : List ℕ
-  pub least : IsLeast (system_of design) lo
-  pub greatest : IsGreatest (system_of design) hi
-  pub told : text ≡ report_of design lo hi
+  pub reported : IsReportOf files word text
 
 -- the report got the whole text
 abbrev pub GotReport : List FileEntry → List (List ℕ) → Option (List ℕ) → Option (List ℕ) → Type 0
@@ -78,7 +60,7 @@ GotSomeFront old new = (text : List ℕ) × IsSomeReport text × ((n : ℕ) × A
 pub data IsSomeDue (words : List (List ℕ)) (before now : Counts) (text : List ℕ) : Type 0 where
   some_usage : requested words ≡ None → text ≡ usage_line → IsSomeDue words before now text
   some_unread : (kind : FileKind) → Rose before.faults now.faults → text ≡ cannot_read_line kind → IsSomeDue words before now text
-  some_refused : (refusal : Refusal) (name : List ℕ) → IsOfNets refusal → text ≡ refusal_line refusal name → IsSomeDue words before now text
+  some_refused : (refusal : Refusal) (name : List ℕ) → text ≡ refusal_line refusal name → IsSomeDue words before now text
   some_report : IsSomeReport text → IsSomeDue words before now text
 
 -- after want of memory the report got nothing, or a front of that

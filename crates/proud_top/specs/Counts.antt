@@ -4,7 +4,7 @@ use Rattle.book_outer.specs.Files.{FileEntry, content}
 use Rattle.book_files.specs.declared.records.FileKind.{FileKind}
 use Rattle.book_files.specs.declared.records.FileKind.TheVariants.{Scl}
 use Rattle.proud_top.specs.declared.status.Refusal.{Refusal}
-use Rattle.proud_top.specs.declared.status.Refusal.TheVariants.{TooLong, Text, Design, NotBuilt}
+use Rattle.proud_top.specs.declared.status.Refusal.TheVariants.{TooLong, Text, Design, Net, Unanchored}
 use Rattle.proud_top.specs.Request.{requested}
 use Rattle.proud_top.specs.Accepted.{IsReached}
 
@@ -45,4 +45,5 @@ abbrev pub last_kind : Refusal → FileKind
 last_kind (TooLong kind) = kind
 last_kind (Text kind fault) = kind
 last_kind (Design fault) = Scl
-last_kind (NotBuilt kind) = Scl
+last_kind (Net fault) = Scl
+last_kind (Unanchored point) = Scl

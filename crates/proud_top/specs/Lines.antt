@@ -6,8 +6,10 @@ use Rattle.book_files.specs.declared.fault.TextKind.{TextKind}
 use Rattle.book_files.specs.declared.fault.TextKind.TheVariants.{BadHeader, BadLine, BadNumber, CountMismatch}
 use Rattle.book_design.specs.declared.fault.DesignFault.{DesignFault}
 use Rattle.book_design.specs.declared.fault.DesignFault.TheVariants.{DuplicateName, UnknownName, NoPosition, NoRows, MixedRows, RowsOverlap, TallCell, Limit}
+use Rattle.net_model.specs.declared.fault.NetFault.{NetFault}
+use Rattle.net_model.specs.declared.fault.NetFault.TheVariants.{NetTooWide, TooManyEdges, Heavy}
 use Rattle.proud_top.specs.declared.status.Refusal.{Refusal}
-use Rattle.proud_top.specs.declared.status.Refusal.TheVariants.{TooLong, Text, Design, NotBuilt}
+use Rattle.proud_top.specs.declared.status.Refusal.TheVariants.{TooLong, Text, Design, Net, Unanchored}
 
 -- how a kind of file is printed
 abbrev pub kind_text : FileKind → List ℕ
@@ -64,11 +66,25 @@ design_cause (RowsOverlap row) name = row_cause row (codes "overlaps")
 design_cause (TallCell node) name = node_cause name (codes "taller than a row")
 design_cause (Limit kind number) name = limit_cause kind number
 
+-- a net that has too many nodes, and nets that make too many pairs
+abbrev pub wide_cause : ℕ → List ℕ
+wide_cause number = codes "net " ++ decimal number ++ codes ": too wide"
+
+abbrev pub edges_cause : ℕ → List ℕ
+edges_cause number = codes "too many edges: " ++ decimal number
+
+-- what is wrong with the nets; the name is that of the node that the fault names
+abbrev pub net_cause : NetFault → List ℕ → List ℕ
+net_cause (NetTooWide number) name = wide_cause number
+net_cause (TooManyEdges number) name = edges_cause number
+net_cause (Heavy point) name = node_cause name (codes "too heavy")
+
 abbrev pub cause_text : Refusal → List ℕ → List ℕ
 cause_text (TooLong kind) name = kind_text kind ++ codes ": longer than 268435456 bytes"
 cause_text (Text kind fault) name = line_place kind fault.line ++ text_cause fault.kind
 cause_text (Design fault) name = design_cause fault name
-cause_text (NotBuilt kind) name = codes "not built: " ++ kind_text kind
+cause_text (Net fault) name = net_cause fault name
+cause_text (Unanchored point) name = node_cause name (codes "reaches no pad")
 
 -- the line of a refusal; the name is that of the node that it names
 abbrev pub refusal_line : Refusal → List ℕ → List ℕ

@@ -8,7 +8,7 @@ use Rattle.proud_top.specs.declared.status.Status.{Status}
 use Rattle.proud_top.specs.declared.status.Status.TheVariants.{Done, Usage, Refused, ReadFault, WriteFault, Memory}
 use Rattle.proud_top.specs.Lines.{usage_line, cannot_read_line}
 use Rattle.proud_top.specs.Request.{requested}
-use Rattle.proud_top.specs.Refused.{IsRefused, IsOfNets}
+use Rattle.proud_top.specs.Refused.{IsRefused}
 use Rattle.proud_top.specs.Counts.{Counts, IsFaultPlace, IsLastBegun, last_kind}
 use Rattle.proud_top.specs.Answers.{GotReport, GotReportFront, GotSomeReport, GotSomeFront, GotLine, GotRefusal, GotDueFront, GotSomeDueFront}
 
@@ -37,7 +37,7 @@ IsAsked words = requested words ≡ None → ⊥
 abbrev pub Outcome : Option (List FileEntry) → List (List ℕ) → Counts → Counts → Change → Option (List ℕ) → Option (List ℕ) → Status → Type 0
 Outcome files words before now faults old new Done = IsAsked words × IfSome files (λ told. GotReport told words old new) × (now.faults ≡ before.faults) × (faults.now ≡ faults.before) × IfSome files (λ told. IsLastBegun told words Scl before now) × GotSomeReport old new
 Outcome files words before now faults old new Usage = (requested words ≡ None) × GotLine faults.before faults.now old new usage_line
-Outcome files words before now faults old new (Refused refusal) = IsAsked words × IfSome files (λ told. IsRefused told words refusal) × (now.faults ≡ before.faults) × GotRefusal files words refusal faults.before faults.now old new × IfSome files (λ told. IsLastBegun told words (last_kind refusal) before now) × IsOfNets refusal
+Outcome files words before now faults old new (Refused refusal) = IsAsked words × IfSome files (λ told. IsRefused told words refusal) × (now.faults ≡ before.faults) × GotRefusal files words refusal faults.before faults.now old new × IfSome files (λ told. IsLastBegun told words (last_kind refusal) before now)
 Outcome files words before now faults old new (ReadFault kind) = IsAsked words × IfSome files (λ told. IsFaultPlace told words kind before now) × Rose before.faults now.faults × GotLine faults.before faults.now old new (cannot_read_line kind)
 Outcome files words before now faults old new WriteFault = IsAsked words × IfSome files (λ told. GotReportFront told words old new) × (now.faults ≡ before.faults) × Rose faults.before faults.now × IfSome files (λ told. IsLastBegun told words Scl before now) × GotSomeFront old new
 Outcome files words before now faults old new Memory = IfSome files (λ told. GotDueFront told words before now old new) × (requested words ≡ None → (n : ℕ) × Appends old new (take n usage_line)) × GotSomeDueFront words before now old new

@@ -5,7 +5,7 @@ use Rattle.book_outer.specs.Cause.{Rose, one_more}
 use Rattle.book_outer.specs.Files.{FileEntry, content}
 use Rattle.book_outer.specs.Folder.{missed_after}
 use Rattle.book_files.specs.declared.records.FileKind.{FileKind}
-use Rattle.book_files.specs.declared.records.FileKind.TheVariants.{Nets, Wts}
+use Rattle.book_files.specs.declared.records.FileKind.TheVariants.{Wts}
 use Rattle.book_files.specs.declared.fault.TextFault.{TextFault}
 use Rattle.book_files.specs.declared.fault.ReadError.{ReadError}
 use Rattle.book_files.specs.declared.fault.ReadError.TheVariants as read_error
@@ -18,15 +18,20 @@ use Rattle.book_design.specs.Answers.{IsJoined}
 use Rattle.book_files.specs.Entries.{NodeEntry, WeightEntry}
 use Rattle.book_files.specs.Grammar.{IsReading}
 use Rattle.book_files.specs.WeightRules.{weights_grammar}
-use Rattle.narrow_system.specs.NarrowSystem.{IsUnbuilt}
+use Rattle.book_design.specs.Points.{node_value_at, IsNodeOf}
+use Rattle.pad_reach.specs.Reaches.{IsFirstUnanchored}
+use Rattle.net_model.specs.declared.fault.NetFault.{NetFault}
+use Rattle.net_model.specs.Values.{NetworkValue}
+use Rattle.net_model.specs.Network.{IsNetwork, IsFirstFault as IsFirstNetFault}
+use Rattle.net_model.specs.Webs.{joints_of}
 use Rattle.proud_top.specs.declared.status.Refusal.{Refusal}
-use Rattle.proud_top.specs.declared.status.Refusal.TheVariants.{TooLong, Text, Design, NotBuilt}
+use Rattle.proud_top.specs.declared.status.Refusal.TheVariants.{TooLong, Text, Design, Net, Unanchored}
 use Rattle.proud_top.specs.declared.stop.Stop.{Stop}
 use Rattle.proud_top.specs.declared.stop.Stop.TheVariants.{Unread, Refused, Memory}
 use Rattle.proud_top.specs.Counts.{Counts}
 use Rattle.proud_top.specs.Request.{beside}
 use Rattle.proud_top.specs.Accepted.{IsFaultOf}
-use Rattle.proud_top.specs.Refused.{node_of_fault}
+use Rattle.proud_top.specs.Refused.{node_of_fault, point_of_fault}
 use Rattle.proud_top.specs.Stops.{IsDesignReport, IsReportText}
 
 -- what the file holds
@@ -92,17 +97,47 @@ pub record IsFaultNamed (inputs : Files) (fault : DesignFault) (name : List ℕ)
   pub faulty : IsFirstFault inputs fault
   pub named : IfSome (node_of_fault fault) (IsNameIn inputs.nodes name)
 
--- the records make a design that isn't built yet
-pub record IsUnbuiltJoin (inputs : Files) : Type 0 where
+-- the point of the design is a node of this name
+pub record IsPointNamed (design : DesignValue) (name : List ℕ) (point : ℕ) : Type 0 where
+  pub i : ℕ
+  pub node : IsNodeOf design.nodes point i
+  pub named : name ≡ (node_value_at design.nodes i).name
+
+-- the nets of the design have this first fault, and the name is that of the point that it names
+pub record IsNetFaultNamed (design : DesignValue) (fault : NetFault) (name : List ℕ) : Type 0 where
+  pub faulty : IsFirstNetFault design fault
+  pub named : IfSome (point_of_fault fault) (IsPointNamed design name)
+
+-- The nets of the design make a network. From this point of it no chain leads to a pad, and from each point before it one does.
+pub record IsFirstLoose (design : DesignValue) (point : ℕ) : Type 0 where
+  pub network : NetworkValue
+  pub made : IsNetwork design network
+  pub first : IsFirstUnanchored (joints_of network) point
+
+-- the point is the first of those, and the name is its node's
+pub record IsLooseNamed (design : DesignValue) (point : ℕ) (name : List ℕ) : Type 0 where
+  pub loose : IsFirstLoose design point
+  pub named : IsPointNamed design name point
+
+-- a refusal of a design
+abbrev pub IsDesignRefusal : DesignValue → Refusal → List ℕ → Type 0
+IsDesignRefusal design (Net fault) name = IsNetFaultNamed design fault name
+IsDesignRefusal design (Unanchored point) name = IsLooseNamed design point name
+IsDesignRefusal design (Design fault) name = ⊥
+IsDesignRefusal design (TooLong kind) name = ⊥
+IsDesignRefusal design (Text kind fault) name = ⊥
+
+-- the records make a design that is refused by this
+pub record IsJoinRefused (inputs : Files) (refusal : Refusal) (name : List ℕ) : Type 0 where
   pub design : DesignValue
   pub joined : IsJoined inputs design
-  pub unbuilt : IsUnbuilt design
+  pub refused : IsDesignRefusal design refusal name
 
 -- a refusal of what the records make
 abbrev pub IsRefusalOf : Files → Refusal → List ℕ → Type 0
 IsRefusalOf inputs (Design fault) name = IsFaultNamed inputs fault name
-IsRefusalOf inputs (NotBuilt Nets) name = IsUnbuiltJoin inputs
-IsRefusalOf inputs (NotBuilt other) name = ⊥
+IsRefusalOf inputs (Net fault) name = IsJoinRefused inputs (Net fault) name
+IsRefusalOf inputs (Unanchored point) name = IsJoinRefused inputs (Unanchored point) name
 IsRefusalOf inputs (TooLong kind) name = ⊥
 IsRefusalOf inputs (Text kind fault) name = ⊥
 
@@ -112,12 +147,16 @@ IsRefusal nodes fault (Refused refusal name) = (refusal ≡ Design fault) × IfS
 IsRefusal nodes fault (Unread kind) = ⊥
 IsRefusal nodes fault Memory = Unit {0}
 
--- the report of the design, or that it isn't built yet
+-- the stop is a refusal of the design, or want of memory
+abbrev pub StopsDesign : DesignValue → Stop → Type 0
+StopsDesign design (Refused refusal name) = IsDesignRefusal design refusal name.items
+StopsDesign design (Unread kind) = ⊥
+StopsDesign design Memory = Unit {0}
+
+-- the report of the design, or why it is refused
 abbrev pub SolvesDesign : DesignValue → Result (Vec ℕ Global) Stop → Type 0
 SolvesDesign design (Ok text) = IsDesignReport design text.items
-SolvesDesign design (Err (Refused refusal name)) = (refusal ≡ NotBuilt Nets) × IsUnbuilt design
-SolvesDesign design (Err (Unread kind)) = ⊥
-SolvesDesign design (Err Memory) = Unit {0}
+SolvesDesign design (Err stop) = StopsDesign design stop
 
 -- the report of what the records make, or why that is refused
 abbrev pub Solves : Files → Result (Vec ℕ Global) Stop → Type 0

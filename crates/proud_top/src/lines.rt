@@ -1,12 +1,13 @@
 //! The lines that tell why there is no report.
 
 ghost use Rattle.std.specs.Prelude.{◌≡◌, ◌++◌, IfOk, OnOk};
-ghost use Rattle.proud_top.specs.Lines.{kind_text, cannot_read_line, line_place, count_cause, text_cause, node_cause, row_cause, limit_cause, design_cause, cause_text, refusal_line};
+ghost use Rattle.proud_top.specs.Lines.{kind_text, cannot_read_line, line_place, count_cause, text_cause, node_cause, row_cause, limit_cause, design_cause, wide_cause, edges_cause, net_cause, cause_text, refusal_line};
 
 use crate::status::Refusal;
 use book_design::DesignFault;
 use book_files::{FileKind, TextKind};
 use book_text::Memory;
+use net_model::NetFault;
 use std::alloc::Global;
 
 /// The line that tells that a file couldn't be read.
@@ -48,10 +49,8 @@ fn push_cause(
             push_text_cause(alloc, line, fault.kind)
         }
         Refusal::Design(fault) => push_design_cause(alloc, line, fault, name),
-        Refusal::NotBuilt(kind) => {
-            push(line, "not built: ")?;
-            push(line, kind_text(kind))
-        }
+        Refusal::Net(fault) => push_net_cause(alloc, line, fault, name),
+        Refusal::Unanchored(_) => push_node(line, name, "reaches no pad"),
     }
 }
 
@@ -102,12 +101,44 @@ fn push_design_cause(
     }
 }
 
+/// Appends what is wrong with the nets.
+fn push_net_cause(
+    alloc: Global,
+    line: &mut Vec<u8>,
+    fault: NetFault,
+    name: &[u8],
+) -> Result<(), Memory>
+    ensures { OnOk result (line.new.items ≡ line.old.items ++ net_cause fault name.now) }
+{
+    match fault {
+        NetFault::NetTooWide(number) => push_wide(alloc, line, number),
+        NetFault::TooManyEdges(number) => push_edges(alloc, line, number),
+        NetFault::Heavy(_) => push_node(line, name, "too heavy"),
+    }
+}
+
 /// Appends a quantity past its limit.
 fn push_limit(alloc: Global, line: &mut Vec<u8>, kind: u8, number: u64) -> Result<(), Memory>
     ensures { OnOk result (line.new.items ≡ line.old.items ++ limit_cause kind number) }
 {
     let limit = format!(in alloc; "limit {kind} {number}")?;
     push(line, limit.as_str())
+}
+
+/// Appends the number of a net that is too wide.
+fn push_wide(alloc: Global, line: &mut Vec<u8>, number: u32) -> Result<(), Memory>
+    ensures { OnOk result (line.new.items ≡ line.old.items ++ wide_cause number) }
+{
+    let cause = format!(in alloc; "net {number}: too wide")?;
+    push(line, cause.as_str())
+}
+
+/// Appends how many pair terms there are.
+fn push_edges(alloc: Global, line: &mut Vec<u8>, number: u64) -> Result<(), Memory>
+    ensures { OnOk result (line.new.items ≡ line.old.items ++ edges_cause number) }
+{
+    let cause = format!(in alloc; "too many edges: {number}")?;
+    push(line, cause.as_str())
 }
 
 /// Appends the place of a fault: a file's kind and the number of a line.

@@ -1,9 +1,10 @@
 //! The report of a design.
 
-ghost use Rattle.std.specs.Prelude.{◌≡◌, ◌++◌, decimal, IfOk, OnOk};
+ghost use Rattle.std.specs.Prelude.{◌≡◌, ◌++◌, length, decimal, IfOk, OnOk};
 ghost use Rattle.book_design.specs.Values.{node_values};
-ghost use Rattle.proud_top.specs.Report.{signed_text, report_line, report_lines, names_of};
+ghost use Rattle.proud_top.specs.Report.{IsOver, signed_text, ends_text, report_line, report_from, names_of};
 
+use crate::solution::Solution;
 use book_design::Node;
 use book_text::Memory;
 use std::alloc::Global;
@@ -11,42 +12,52 @@ use std::alloc::Global;
 /// What a coordinate is shifted by, so that it isn't negative.
 const SHIFT: u64 = 1_000_000_000_000;
 
-/// The report: a line for each movable node, with its two coordinates.
+/// The report: a line for each movable node, with its lower and its upper coordinate on each axis.
 pub(crate) fn report_text(
     alloc: Global,
     nodes: &[Node<'_>],
-    lo: &[u64],
-    hi: &[u64],
+    x: &Solution,
+    y: &Solution,
 ) -> Result<Vec<u8>, Memory>
-    ensures { IfOk result (λ text. text.items ≡ report_lines (names_of (node_values nodes.now)) lo.now hi.now) }
+    requires x { IsOver (length (names_of (node_values nodes.now))) x.now }
+    requires y { IsOver (length (names_of (node_values nodes.now))) y.now }
+    ensures { IfOk result (λ text. text.items ≡ report_from 0 (names_of (node_values nodes.now)) x.now y.now) }
 {
     let mut text = Vec::new(alloc);
-    let mut lower = lo;
-    let mut upper = hi;
+    let mut point = 0;
     for node in nodes {
         if !node.fixed {
-            if let ([low, lows @ ..], [high, highs @ ..]) = (lower, upper) {
-                push_line(alloc, &mut text, node.name.0, *low, *high)?;
-                lower = lows;
-                upper = highs;
-            } else {
-                return Ok(text);
-            }
+            push_line(alloc, &mut text, node.name.0, x.at(point), y.at(point))?;
+            point += 1;
         }
     }
     Ok(text)
 }
 
 /// Appends a point's line.
-fn push_line(alloc: Global, text: &mut Vec<u8>, name: &[u8], lo: u64, hi: u64) -> Result<(), Memory>
-    ensures { OnOk result (text.new.items ≡ text.old.items ++ report_line name.now lo hi) }
+fn push_line(
+    alloc: Global,
+    text: &mut Vec<u8>,
+    name: &[u8],
+    x: (u64, u64),
+    y: (u64, u64),
+) -> Result<(), Memory>
+    ensures { OnOk result (text.new.items ≡ text.old.items ++ report_line name.now x.0 x.1 y.0 y.1) }
 {
     text.extend_from_slice(name)?;
-    text.push(b' ')?;
-    push_coordinate(alloc, text, lo)?;
-    text.push(b' ')?;
-    push_coordinate(alloc, text, hi)?;
+    push_ends(alloc, text, x)?;
+    push_ends(alloc, text, y)?;
     Ok(text.push(b'\n')?)
+}
+
+/// Appends the lower and the upper coordinate of a point on an axis.
+fn push_ends(alloc: Global, text: &mut Vec<u8>, ends: (u64, u64)) -> Result<(), Memory>
+    ensures { OnOk result (text.new.items ≡ text.old.items ++ ends_text ends.0 ends.1) }
+{
+    text.push(b' ')?;
+    push_coordinate(alloc, text, ends.0)?;
+    text.push(b' ')?;
+    push_coordinate(alloc, text, ends.1)
 }
 
 /// Appends a coordinate as a signed decimal of millionths.

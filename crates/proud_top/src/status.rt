@@ -3,6 +3,7 @@ ghost use Rattle.proud_top.specs.Codes.{code_of};
 
 use book_design::DesignFault;
 use book_files::{FileKind, TextFault};
+use net_model::NetFault;
 
 /// How a run ended.
 #[derive(Clone, Copy, Debug, PartialEq, Eq)]
@@ -21,7 +22,8 @@ pub enum Status {
     Memory,
 }
 
-/// Why a design was refused: the first cause in the order of the files, then of the files together, then of the nets.
+/// Why a design was refused: the first cause in the order of the files, then of the files together, then
+/// of the nets, then of the points.
 #[derive(Clone, Copy, Debug, PartialEq, Eq)]
 pub enum Refusal {
     /// The file has more than 268,435,456 bytes.
@@ -30,8 +32,10 @@ pub enum Refusal {
     Text(FileKind, TextFault),
     /// The first fault of the files together.
     Design(DesignFault),
-    /// The placer doesn't build such a design yet. It is given with the nets alone.
-    NotBuilt(FileKind),
+    /// The first fault of the nets.
+    Net(NetFault),
+    /// The first point from which no chain of nets leads to a pad.
+    Unanchored(u32),
 }
 
 impl Status {

@@ -2,7 +2,7 @@ ghost use Rattle.std.specs.Prelude.{IfOk};
 ghost use Rattle.book_outer.specs.Files.{AreNamesDistinct};
 
 use crate::lines::refusal_line;
-use crate::{DesignFault, FileKind, Refusal, Status, TextFault, TextKind, proud};
+use crate::{DesignFault, FileKind, NetFault, Refusal, Status, TextFault, TextKind, proud};
 use book_outer::{Calls, Files, MemFolder, MemSink, OpenGate, Words};
 use book_text::Memory;
 use std::alloc::Global;
@@ -11,17 +11,17 @@ use std::test::Fail;
 
 /// The texts of a design. That of the weights is read only where the aux file names it.
 #[derive(Clone, Copy)]
-struct Texts {
-    aux: &'static [u8],
-    nodes: &'static [u8],
-    nets: &'static [u8],
-    wts: &'static [u8],
-    pl: &'static [u8],
-    scl: &'static [u8],
+struct Texts<'a> {
+    aux: &'a [u8],
+    nodes: &'a [u8],
+    nets: &'a [u8],
+    wts: &'a [u8],
+    pl: &'a [u8],
+    scl: &'a [u8],
 }
 
 /// One cell between two terminals.
-fn one_cell() -> Texts {
+fn one_cell() -> Texts<'static> {
     Texts {
         aux: b"RowBasedPlacement : a.nodes a.nets a.pl a.scl\n",
         nodes: b"UCLA nodes 1.0\nNumNodes : 3\nNumTerminals : 2\n\
@@ -36,7 +36,7 @@ fn one_cell() -> Texts {
 }
 
 /// Two cells in a chain between two terminals.
-fn two_cells() -> Texts {
+fn two_cells() -> Texts<'static> {
     Texts {
         nodes: b"UCLA nodes 1.0\nNumNodes : 4\nNumTerminals : 2\n\
             a 2 10\nb 2 10\nl 0 0 terminal\nr 0 0 terminal\n",
@@ -48,7 +48,7 @@ fn two_cells() -> Texts {
 }
 
 /// Two terminals, and nothing between them.
-fn terminals() -> Texts {
+fn terminals() -> Texts<'static> {
     Texts {
         nodes: b"UCLA nodes 1.0\nNumNodes : 2\nNumTerminals : 2\nl 0 0 terminal\nr 0 0 terminal\n",
         nets: b"UCLA nets 1.0\nNumNets : 0\nNumPins : 0\n",
@@ -58,7 +58,7 @@ fn terminals() -> Texts {
 }
 
 /// A design as such files usually are: offsets, pads beside the core, a macro over two rows, a net with a weight.
-fn usual() -> Texts {
+fn usual() -> Texts<'static> {
     Texts {
         aux: b"RowBasedPlacement : a.nodes a.nets a.wts a.pl a.scl\n",
         nodes: b"UCLA nodes 1.0\n# a comment\n\nNumNodes : 5\nNumTerminals : 3\n\tu\t3\t12\n\tv\t5\t12\n\
@@ -81,18 +81,18 @@ fn usual() -> Texts {
 }
 
 /// One cell between two terminals, with another text of a kind.
-fn with_nodes(nodes: &'static [u8]) -> Texts {
+fn with_nodes(nodes: &'static [u8]) -> Texts<'static> {
     Texts {
         nodes,
         ..one_cell()
     }
 }
 
-fn with_nets(nets: &'static [u8]) -> Texts {
+fn with_nets(nets: &'static [u8]) -> Texts<'static> {
     Texts { nets, ..one_cell() }
 }
 
-fn with_weights(wts: &'static [u8]) -> Texts {
+fn with_weights(wts: &'static [u8]) -> Texts<'static> {
     Texts {
         aux: b"RowBasedPlacement : a.nodes a.nets a.wts a.pl a.scl\n",
         wts,
@@ -100,16 +100,16 @@ fn with_weights(wts: &'static [u8]) -> Texts {
     }
 }
 
-fn with_places(pl: &'static [u8]) -> Texts {
+fn with_places(pl: &'static [u8]) -> Texts<'static> {
     Texts { pl, ..one_cell() }
 }
 
-fn with_rows(scl: &'static [u8]) -> Texts {
+fn with_rows(scl: &'static [u8]) -> Texts<'static> {
     Texts { scl, ..one_cell() }
 }
 
 /// The files in the folder itself, in a folder below, or without those of the weights and the places.
-fn files_of(alloc: Global, texts: Texts) -> Result<Files, Memory>
+fn files_of(alloc: Global, texts: Texts<'_>) -> Result<Files, Memory>
     ensures { IfOk result AreNamesDistinct }
 {
     let mut files = Files::new(alloc);
@@ -122,7 +122,7 @@ fn files_of(alloc: Global, texts: Texts) -> Result<Files, Memory>
     Ok(files)
 }
 
-fn files_below(alloc: Global, texts: Texts) -> Result<Files, Memory>
+fn files_below(alloc: Global, texts: Texts<'_>) -> Result<Files, Memory>
     ensures { IfOk result AreNamesDistinct }
 {
     let mut files = Files::new(alloc);
@@ -134,7 +134,7 @@ fn files_below(alloc: Global, texts: Texts) -> Result<Files, Memory>
     Ok(files)
 }
 
-fn files_without(alloc: Global, texts: Texts) -> Result<Files, Memory>
+fn files_without(alloc: Global, texts: Texts<'_>) -> Result<Files, Memory>
     ensures { IfOk result AreNamesDistinct }
 {
     let mut files = Files::new(alloc);
@@ -156,9 +156,9 @@ fn calls_of(alloc: Global, number: u64) -> Result<Calls, Memory> {
 
 /// A run on a design in the folder itself, and what it is to answer.
 #[derive(Clone, Copy)]
-struct Case {
+struct Case<'a> {
     words: &'static [&'static str],
-    texts: Texts,
+    texts: Texts<'a>,
     /// The number of the folder's call that fails, or 0.
     call: u64,
     /// The number of the put that fails, or 0.
@@ -170,7 +170,7 @@ struct Case {
 /// The words of a run on the design in the folder itself.
 const A: &[&str] = &["proud", "a.aux"];
 
-fn case_of(texts: Texts, status: Status, report: &'static [u8]) -> Case {
+fn case_of<'a>(texts: Texts<'a>, status: Status, report: &'static [u8]) -> Case<'a> {
     Case {
         words: A,
         texts,
@@ -190,7 +190,7 @@ fn words_of(alloc: Global, words: &[&str]) -> Result<Words, Memory> {
 }
 
 /// Asserts the status, what the report got, and that the files are as they were.
-fn assert_case(rt: &impl Abort, alloc: Global, case: Case) -> Result<(), Memory> {
+fn assert_case(rt: &impl Abort, alloc: Global, case: Case<'_>) -> Result<(), Memory> {
     let mut folder = MemFolder::new(files_of(alloc, case.texts)?, calls_of(alloc, case.call)?);
     let mut report = MemSink::new(alloc, calls_of(alloc, case.put)?);
     let words = words_of(alloc, case.words)?;
@@ -210,24 +210,35 @@ fn assert_case(rt: &impl Abort, alloc: Global, case: Case) -> Result<(), Memory>
 fn designs_are_placed(rt: HostRuntime) -> Result<(), Fail> {
     // The terminal l stands beside the core: it is clamped to the core's left end.
     let beside = b"UCLA pl 1.0\na 0 0 : N\nl -50 5 : N /FIXED\nr 10 5 : N /FIXED\n";
-    let no_offset = b"UCLA nets 1.0\nNumNets : 2\nNumPins : 4\n\
-        NetDegree : 2 n0\nl B : 0 0\na B\nNetDegree : 2 n1\na B\nr B\n";
+    let offset = b"UCLA nets 1.0\nNumNets : 2\nNumPins : 4\n\
+        NetDegree : 2 n0\nl B : 1 0\na B\nNetDegree : 2 n1\na B\nr B\n";
+    let middle = b"a 5000000 5000000 5000000 5000000\n";
     let cases = [
-        case_of(one_cell(), Status::Done, b"a 5000000 5000000\n"),
+        case_of(one_cell(), Status::Done, middle),
         case_of(
             two_cells(),
             Status::Done,
-            b"a 3333333 3333334\nb 6666666 6666667\n",
+            b"a 3333333 3333334 4999999 5000001\nb 6666666 6666667 4999999 5000001\n",
+        ),
+        case_of(
+            usual(),
+            Status::Done,
+            b"u 7739130 7739131 18608695 18608696\nv 16956521 16956522 25434782 25434783\n",
         ),
         case_of(terminals(), Status::Done, b""),
-        case_of(with_places(beside), Status::Done, b"a 5000000 5000000\n"),
-        case_of(with_nets(no_offset), Status::Done, b"a 5000000 5000000\n"),
-        // A name of weights that no net has is without effect.
+        case_of(with_places(beside), Status::Done, middle),
         case_of(
-            with_weights(b"UCLA wts 1.0\nn7 3\n"),
+            with_nets(offset),
             Status::Done,
-            b"a 5000000 5000000\n",
+            b"a 5500000 5500000 5000000 5000000\n",
         ),
+        case_of(
+            with_weights(b"UCLA wts 1.0\nn0 65535\n"),
+            Status::Done,
+            b"a 152 153 5000000 5000000\n",
+        ),
+        // A name of weights that no net has is without effect.
+        case_of(with_weights(b"UCLA wts 1.0\nn7 3\n"), Status::Done, middle),
     ];
     for case in cases {
         assert_case(&rt, rt.alloc(), case)?;
@@ -239,7 +250,7 @@ fn designs_are_placed(rt: HostRuntime) -> Result<(), Fail> {
 /// A design whose file of the kind has this first fault, and the line that tells it.
 #[derive(Clone, Copy)]
 struct Faulty {
-    texts: Texts,
+    texts: Texts<'static>,
     kind: FileKind,
     line: u64,
     fault: TextKind,
@@ -247,7 +258,7 @@ struct Faulty {
 }
 
 fn with_fault(
-    texts: Texts,
+    texts: Texts<'static>,
     kind: FileKind,
     line: u64,
     fault: TextKind,
@@ -376,7 +387,7 @@ fn faults_of_designs_are_told(rt: HostRuntime) -> Result<(), Fail> {
         line: 5,
     };
     let weight = DesignFault::Limit { kind: 5, number: 0 };
-    let cases: [(Texts, DesignFault, &'static [u8]); 11] = [
+    let cases: [(Texts<'static>, DesignFault, &'static [u8]); 11] = [
         (
             with_nodes(twice),
             DesignFault::DuplicateName { line: 5 },
@@ -438,20 +449,129 @@ fn faults_of_designs_are_told(rt: HostRuntime) -> Result<(), Fail> {
 }
 
 #[test]
-fn designs_that_are_not_built_are_told(rt: HostRuntime) -> Result<(), Fail> {
-    let offset = b"UCLA nets 1.0\nNumNets : 2\nNumPins : 4\n\
-        NetDegree : 2 n0\nl B : 1 0\na B\nNetDegree : 2 n1\na B\nr B\n";
-    let alone = Texts {
-        nodes: b"UCLA nodes 1.0\nNumNodes : 4\nNumTerminals : 2\n\
-            a 2 10\nc 2 10\nl 0 0 terminal\nr 0 0 terminal\n",
+fn points_that_reach_no_pad_are_told(rt: HostRuntime) -> Result<(), Fail> {
+    let alone = with_nodes(
+        b"UCLA nodes 1.0\nNumNodes : 4\nNumTerminals : 2\n\
+        a 2 10\nc 2 10\nl 0 0 terminal\nr 0 0 terminal\n",
+    );
+    // Two cells are joined to one another alone.
+    let apart = Texts {
+        nodes: b"UCLA nodes 1.0\nNumNodes : 5\nNumTerminals : 2\n\
+            a 2 10\nc 2 10\ne 2 10\nl 0 0 terminal\nr 0 0 terminal\n",
+        nets: b"UCLA nets 1.0\nNumNets : 3\nNumPins : 6\nNetDegree : 2 n0\nl B\na B\n\
+            NetDegree : 2 n1\na B\nr B\nNetDegree : 2 n2\nc B\ne B\n",
         ..one_cell()
     };
-    let weights = with_weights(b"UCLA wts 1.0\nn0 65535\n");
-    let refused = Status::Refused(Refusal::NotBuilt(FileKind::Nets));
-    for texts in [usual(), with_nets(offset), alone, weights] {
-        let case = case_of(texts, refused, b"proud: not built: nets\n");
+    let refused = Status::Refused(Refusal::Unanchored(1));
+    for texts in [alone, apart] {
+        let case = case_of(texts, refused, b"proud: node c: reaches no pad\n");
         assert_case(&rt, rt.alloc(), case)?;
     }
+    assert_eq!(rt; refused.code(), 2);
+    Ok(())
+}
+
+/// Some text, and behind it a line for each number below `count`, which stands in the line.
+fn lines_of(
+    alloc: Global,
+    head: &str,
+    before: &str,
+    after: &str,
+    count: u32,
+) -> Result<Vec<u8>, Memory> {
+    let mut text = Vec::from_slice(alloc, head.as_bytes())?;
+    for number in 0..count {
+        let line = format!(in alloc; "{before}{number}{after}\n")?;
+        text.extend_from_slice(line.as_bytes())?;
+    }
+    Ok(text)
+}
+
+/// One cell with so many nets to a pad, each of the greatest weight.
+fn assert_many_nets(
+    rt: &impl Abort,
+    alloc: Global,
+    nets: u32,
+    status: Status,
+    report: &'static [u8],
+) -> Result<(), Memory> {
+    let pins = u64::from(nets) * 2;
+    let head = format!(in alloc; "UCLA nets 1.0\nNumNets : {nets}\nNumPins : {pins}\n")?;
+    let net_text = lines_of(alloc, head.as_str(), "NetDegree : 2 n", "\nl B\na B", nets)?;
+    let weight_text = lines_of(alloc, "UCLA wts 1.0\n", "n", " 65535", nets)?;
+    let texts = Texts {
+        aux: b"RowBasedPlacement : a.nodes a.nets a.wts a.pl a.scl\n",
+        nets: net_text.as_slice(),
+        wts: weight_text.as_slice(),
+        ..one_cell()
+    };
+    assert_case(rt, alloc, case_of(texts, status, report))
+}
+
+#[test]
+fn points_that_are_too_heavy_are_told(rt: HostRuntime) -> Result<(), Fail> {
+    let light = b"a 0 0 5000000 5000000\n";
+    assert_many_nets(&rt, rt.alloc(), 19_973, Status::Done, light)?;
+    let heavy = Status::Refused(Refusal::Net(NetFault::Heavy(0)));
+    let told = b"proud: node a: too heavy\n";
+    assert_many_nets(&rt, rt.alloc(), 19_974, heavy, told)?;
+    Ok(())
+}
+
+/// One net of two cells and so many pads, all at one place.
+fn assert_many_pads(
+    rt: &impl Abort,
+    alloc: Global,
+    pads: u32,
+    status: Status,
+    report: &'static [u8],
+) -> Result<(), Memory> {
+    let nodes = u64::from(pads) + 2;
+    let head = format!(in alloc; "UCLA nodes 1.0\nNumNodes : {nodes}\na 2 10\nb 2 10\n")?;
+    let node_text = lines_of(alloc, head.as_str(), "p", " 0 0 terminal", pads)?;
+    let head = format!(in alloc;
+        "UCLA nets 1.0\nNumNets : 1\nNumPins : {nodes}\nNetDegree : {nodes}\na B\nb B\n"
+    )?;
+    let net_text = lines_of(alloc, head.as_str(), "p", " B", pads)?;
+    let place_text = lines_of(alloc, "UCLA pl 1.0\n", "p", " 0 5 : N /FIXED", pads)?;
+    let texts = Texts {
+        nodes: node_text.as_slice(),
+        nets: net_text.as_slice(),
+        pl: place_text.as_slice(),
+        ..one_cell()
+    };
+    assert_case(rt, alloc, case_of(texts, status, report))
+}
+
+#[test]
+fn nets_that_are_too_wide_are_told(rt: HostRuntime) -> Result<(), Fail> {
+    let narrow = b"a 0 1 4999999 5000001\nb 0 1 4999999 5000001\n";
+    assert_many_pads(&rt, rt.alloc(), 510, Status::Done, narrow)?;
+    let wide = Status::Refused(Refusal::Net(NetFault::NetTooWide(0)));
+    let told = b"proud: net 0: too wide\n";
+    assert_many_pads(&rt, rt.alloc(), 511, wide, told)?;
+    Ok(())
+}
+
+/// 512 cells stand in each of 129 nets.
+#[test]
+fn nets_with_too_many_edges_are_told(rt: HostRuntime) -> Result<(), Fail> {
+    let alloc = rt.alloc();
+    let node_text = lines_of(alloc, "UCLA nodes 1.0\nNumNodes : 512\n", "c", " 2 10", 512)?;
+    let net = lines_of(alloc, "NetDegree : 512\n", "c", " B", 512)?;
+    let mut net_text = Vec::from_slice(alloc, b"UCLA nets 1.0\nNumNets : 129\nNumPins : 66048\n")?;
+    for _ in 0..129 {
+        net_text.extend_from_slice(&net)?;
+    }
+    let texts = Texts {
+        nodes: node_text.as_slice(),
+        nets: net_text.as_slice(),
+        pl: b"UCLA pl 1.0\n",
+        ..one_cell()
+    };
+    let refused = Status::Refused(Refusal::Net(NetFault::TooManyEdges(16_875_264)));
+    let told = b"proud: too many edges: 16875264\n";
+    assert_case(&rt, alloc, case_of(texts, refused, told))?;
     Ok(())
 }
 
@@ -548,14 +668,15 @@ fn files_stand_beside_the_aux_file(rt: HostRuntime) -> Result<(), Fail> {
     let words = words_of(alloc, &["proud", "d/a.aux"])?;
     let status = proud(alloc, &words, &mut folder, &mut report, &OpenGate);
     assert_eq!(rt; status, Status::Done);
-    assert!(rt; report.written() == b"a 5000000 5000000\n".as_slice());
+    let expected: &[u8] = b"a 5000000 5000000 5000000 5000000\n";
+    assert!(rt; report.written() == expected);
     Ok(())
 }
 
 #[test]
 fn absent_files_are_told(rt: HostRuntime) -> Result<(), Fail> {
     let alloc = rt.alloc();
-    let cases: [(Texts, FileKind, &'static [u8]); 2] = [
+    let cases: [(Texts<'static>, FileKind, &'static [u8]); 2] = [
         (one_cell(), FileKind::Pl, b"proud: cannot read pl\n"),
         (usual(), FileKind::Wts, b"proud: cannot read wts\n"),
     ];

@@ -1,4 +1,4 @@
-ghost use Rattle.std.specs.Prelude.{◌≡◌, ◌⊎◌, ℕ, List, take, Some, None, IfSome, MatchOption};
+ghost use Rattle.std.specs.Prelude.{◌≡◌, ◌⊎◌, ℕ, ◌<◌, List, length, take, Some, None, IfSome, MatchOption};
 ghost use Rattle.std.specs.Io.KnownBytes.{Appends};
 ghost use Rattle.book_outer.specs.Cause.{Rose};
 ghost use Rattle.book_outer.specs.Files.{FileEntry};
@@ -7,12 +7,15 @@ ghost use Rattle.book_files.specs.Entries.{AuxEntry};
 ghost use Rattle.book_design.specs.Files.{Files};
 ghost use Rattle.book_design.specs.Values.{DesignValue};
 ghost use Rattle.book_design.specs.Answers.{IsJoined};
-ghost use Rattle.narrow_system.specs.NarrowSystem.{IsUnbuilt};
+ghost use Rattle.pad_reach.specs.Chain.{HasChain};
+ghost use Rattle.net_model.specs.Values.{NetworkValue};
+ghost use Rattle.net_model.specs.Network.{IsNetwork};
+ghost use Rattle.net_model.specs.Webs.{joints_of};
 ghost use Rattle.proud_top.specs.declared.status.Refusal.{Refusal};
 ghost use Rattle.proud_top.specs.Lines.{usage_line, cannot_read_line, refusal_line};
 ghost use Rattle.proud_top.specs.Request.{requested};
 ghost use Rattle.proud_top.specs.Accepted.{Accepts};
-ghost use Rattle.proud_top.specs.Refused.{IsRefused, IsOfNets};
+ghost use Rattle.proud_top.specs.Refused.{IsRefused};
 ghost use Rattle.proud_top.specs.Counts.{Counts, IsFaultPlace, IsLastBegun, last_kind};
 ghost use Rattle.proud_top.specs.Outcome.{Outcome, Tells, PutsReport};
 ghost use Rattle.proud_top.specs.Answers.{GotReport, GotReportFront, GotSomeReport, GotSomeFront, GotLine, GotRefusal, GotDueFront, GotSomeDueFront};
@@ -26,10 +29,10 @@ use book_files::FileKind;
 use book_outer::{Folder, Gate, Sink, Trouble, Words};
 use std::alloc::Global;
 
-/// Places the design that the words name, and reports for each cell its lower and its upper x coordinate.
+/// Places the design that the words name, and reports for each cell its lower and its upper coordinate on each axis.
 ///
 /// The words are the program's name and the name of the design's aux file. The report gets one line per cell,
-/// `NAME XLO XHI` in millionths of a Bookshelf unit, or one line that says what is wrong.
+/// `NAME XLO XHI YLO YHI` in millionths of a Bookshelf unit, or one line that says what is wrong.
 pub fn proud<F: Folder, S: Sink, G: Gate>(
     alloc: Global,
     words: &Words,
@@ -37,8 +40,8 @@ pub fn proud<F: Folder, S: Sink, G: Gate>(
     report: &mut S,
     _gate: &G,
 ) -> Status
-    // Done: the files are accepted and make a design that is built, and the report got exactly a line per point with its
-    // two coordinates.
+    // Done: the files are accepted and make a design without a fault of its nets, in which each point reaches a pad, and the
+    // report got exactly a line per point with its two coordinates on each axis.
     ensures done { result ≡ Status.Done → IfSome (F.files folder.old) (λ files.
         GotReport files words.now (S.written report.old) (S.written report.new)) }
     ensures calm_reads { result ≡ Status.Done → F.read_faults folder.new ≡ F.read_faults folder.old }
@@ -72,7 +75,8 @@ pub fn proud<F: Folder, S: Sink, G: Gate>(
         (record { begun = F.begun folder.old; missed = F.missed folder.old; faults = F.read_faults folder.old })
         (record { begun = F.begun folder.new; missed = F.missed folder.new; faults = F.read_faults folder.new })) }
 
-    // Refused comes exactly by the first cause, in the order of the files, of the files together, and of the nets.
+    // Refused comes exactly by the first cause, in the order of the files, of the files together, of the nets, and of the
+    // points.
     ensures refused { (refusal : Refusal) → result ≡ Status.Refused refusal
         → IfSome (F.files folder.old) (λ files. IsRefused files words.now refusal) }
     ensures only_refused { (files : List FileEntry) (refusal : Refusal) → F.files folder.old ≡ Some files
@@ -80,7 +84,6 @@ pub fn proud<F: Folder, S: Sink, G: Gate>(
         → (result ≡ Status.Refused refusal) ⊎ (result ≡ Status.Memory) }
     ensures refused_told { (refusal : Refusal) → result ≡ Status.Refused refusal
         → GotRefusal (F.files folder.old) words.now refusal (S.faults report.old) (S.faults report.new) (S.written report.old) (S.written report.new) }
-    ensures of_nets { (refusal : Refusal) → result ≡ Status.Refused refusal → IsOfNets refusal }
     ensures refused_begun { (refusal : Refusal) → result ≡ Status.Refused refusal
         → IfSome (F.files folder.old) (λ files. IsLastBegun files words.now (last_kind refusal)
         (record { begun = F.begun folder.old; missed = F.missed folder.old; faults = F.read_faults folder.old })
@@ -108,10 +111,12 @@ pub fn proud<F: Folder, S: Sink, G: Gate>(
         (record { begun = F.begun folder.new; missed = F.missed folder.new; faults = F.read_faults folder.new })
         (S.written report.old) (S.written report.new)) }
 
-    // Accepted files that make a design that is built are placed, unless a fault or want of memory comes.
-    ensures complete { (files : List FileEntry) (word : List ℕ) (names : AuxEntry) (inputs : Files) (design : DesignValue)
+    // Accepted files that make a design without a fault of its nets, in which each point reaches a pad, are placed, unless a
+    // fault or want of memory comes.
+    ensures complete { (files : List FileEntry) (word : List ℕ) (names : AuxEntry) (inputs : Files) (design : DesignValue) (network : NetworkValue)
         → F.files folder.old ≡ Some files → requested words.now ≡ Some word
-        → Accepts files word names inputs → IsJoined inputs design → (IsUnbuilt design → ⊥)
+        → Accepts files word names inputs → IsJoined inputs design → IsNetwork design network
+        → ((p : ℕ) → p < length network.points → HasChain (joints_of network) p)
         → (Rose (F.read_faults folder.old) (F.read_faults folder.new) → ⊥)
         → (Rose (S.faults report.old) (S.faults report.new) → ⊥)
         → (result ≡ Status.Done) ⊎ (result ≡ Status.Memory) }

@@ -7,7 +7,7 @@ returns-in-Ok-clause-outcome g c = report_put _ _ _ c.in-Ok.text.items _ _ _ _ _
 pub returns-in-Err-Refused-clause-outcome : goal.returns-in-Err-Refused-clause-outcome
 returns-in-Err-Refused-clause-outcome g c =
     let places = rw c.in-Err-Refused.field-0-is at c.in-Err-Refused.ensures.places in
-    refusal_told _ _ _ c.in-Err-Refused.name.items _ _ _ _ _ c.in-Err-Refused.refusal _ c.in-Some.ensures places.0 places.1 places.2 places.3 (rw c.deref-in-Err-Refused.ensures.value at c.tell_refusal.ensures)
+    refusal_told _ _ _ c.in-Err-Refused.name.items _ _ _ _ _ c.in-Err-Refused.refusal _ c.in-Some.ensures places.0 places.1 places.2 (rw c.deref-in-Err-Refused.ensures.value at c.tell_refusal.ensures)
 
 pub returns-in-Err-Unread-clause-outcome : goal.returns-in-Err-Unread-clause-outcome
 returns-in-Err-Unread-clause-outcome g c =

@@ -1,7 +1,0 @@
-mod Movable
-mod Coordinates
-mod Nets
-mod Nodes
-mod Joined
-mod Valid
-mod Answer

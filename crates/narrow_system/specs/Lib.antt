@@ -1,2 +1,0 @@
-pub mod NarrowSystem
-pub mod Joining

@@ -1,0 +1,87 @@
+-- As many points as movable nodes: in the network of a design, in the solutions of its systems, and among the names of the report.
+use Rattle.std.proofs.Common.{◌≡◌, ℕ, zero, suc, ◌+◌, ◌<◌, ◌≤◌, Bool, true, false, cond, List, [], ◌∷◌, ◌++◌, length, map, refl, sym, ◌∙◌, ap, subst, arith, length-append, zero-add, add-one}
+use Rattle.std.specs.Prelude.{filter, pos}
+use Rattle.std.specs.List.{range_with_len, count_by}
+use Rattle.std.proofs.lemmas.List.{length-map}
+use Rattle.std.proofs.lemmas.List.FromFn.{filter_of_map_range_with_len_more, length-map-range_with_len}
+use Rattle.std.proofs.lemmas.List.Recursion.{is_count_by}
+use Rattle.std.proofs.lemmas.List.Sums.{count_by_more_yes, count_by_more_no}
+use Rattle.std.proofs.Math.Seq.{take-length}
+use Rattle.book_files.specs.declared.orient.Orient.TheVariants.{N}
+use Rattle.book_design.specs.Values.{NodeValue, DesignValue}
+use Rattle.book_design.specs.Points.{is_movable, node_value_at, movable_before}
+use Rattle.net_model.specs.Values.{NetworkValue}
+use Rattle.net_model.specs.declared.fault.NetFault.TheVariants.{Heavy}
+use Rattle.net_model.specs.Network.{IsNetwork, IsFirstFault, point_nodes, point_value}
+use Rattle.core_system.specs.declared.axis.Axis.{Axis}
+use Rattle.core_system.specs.CoreSystem.{point_of}
+use Rattle.proud_top.specs.Report.{Solve, IsOver, names_of}
+use Rattle.proud_top.specs.Stops.{IsSolveOf}
+use Rattle.proud_top.specs.Steps.{IsFirstLoose}
+
+-- what stands past the end
+abbrev no_node : NodeValue
+no_node = record { name = []; width = pos 0; height = pos 0; x = pos 0; y = pos 0; orient = N; fixed = true }
+
+-- the movable nodes among the first n
+abbrev movable_up_to : List NodeValue → ℕ → List ℕ
+movable_up_to nodes n = filter (λ i. is_movable (node_value_at nodes i)) (range_with_len 0 n)
+
+map_same : (xs : List ℕ) → map (λ x. x) xs ≡ xs
+map_same [] = refl
+map_same (x ∷ xs) = ap (λ ys. x ∷ ys) (map_same xs)
+
+movable_more : (nodes : List NodeValue) (n : ℕ) → movable_up_to nodes (n + 1) ≡ movable_up_to nodes n ++ cond (is_movable (node_value_at nodes n)) (n ∷ []) []
+movable_more nodes n =
+    let p : ℕ → Bool = λ i. is_movable (node_value_at nodes i) in
+    let e = filter_of_map_range_with_len_more p (λ i. i) 0 n n (zero-add n) in
+    sym (ap (filter p) (map_same (range_with_len 0 (n + 1)))) ∙ e ∙ ap (λ xs. filter p xs ++ cond (p n) (n ∷ []) []) (map_same (range_with_len 0 n))
+
+-- as many as are counted
+count_step : (nodes : List NodeValue) (n : ℕ) (b : Bool) → n < length nodes → is_movable (node_value_at nodes n) ≡ b → length (movable_up_to nodes n) ≡ movable_before nodes n
+    → length (movable_up_to nodes (n + 1)) ≡ movable_before nodes (n + 1)
+count_step nodes n true h e ih =
+    let more = ap length (movable_more nodes n ∙ ap (λ b. movable_up_to nodes n ++ cond b (n ∷ []) []) e) in
+    more ∙ length-append (movable_up_to nodes n) (n ∷ []) ∙ ap (λ k. k + 1) ih ∙ sym (count_by_more_yes is_movable nodes n no_node h e)
+count_step nodes n false h e ih =
+    let more = ap length (movable_more nodes n ∙ ap (λ b. movable_up_to nodes n ++ cond b (n ∷ []) []) e) in
+    let none : length (movable_up_to nodes n ++ []) ≡ length (movable_up_to nodes n) = omega (arith, length-append (movable_up_to nodes n) []) in
+    more ∙ none ∙ ih ∙ sym (count_by_more_no is_movable nodes n no_node h e)
+
+count_movable : (nodes : List NodeValue) (n : ℕ) → n ≤ length nodes → length (movable_up_to nodes n) ≡ movable_before nodes n
+count_movable nodes zero h = refl
+count_movable nodes (suc n) h =
+    let P : ℕ → Type 0 = λ k. length (movable_up_to nodes k) ≡ movable_before nodes k in
+    subst P (add-one n) (count_step nodes n (is_movable (node_value_at nodes n)) (omega arith) refl (count_movable nodes n (omega arith)))
+
+-- the points of a design
+pub points_counted : (design : DesignValue) → length (point_nodes design) ≡ count_by is_movable design.nodes
+points_counted design = count_movable design.nodes (length design.nodes) (omega arith) ∙ ap (count_by is_movable) (take-length design.nodes)
+
+-- and of its network
+network_counted : (design : DesignValue) (network : NetworkValue) → IsNetwork design network → length network.points ≡ count_by is_movable design.nodes
+network_counted design network h =
+    ap (λ (n : NetworkValue). length n.points) h.made ∙ length-map-range_with_len (point_value design) 0 (length (point_nodes design)) ∙ points_counted design
+
+-- and the names of the report
+names_counted : (nodes : List NodeValue) → length (names_of nodes) ≡ count_by is_movable nodes
+names_counted nodes = is_count_by (λ rest. length (names_of rest)) is_movable refl (λ node rest. by_test node rest node.fixed refl) nodes where
+  by_test : (node : NodeValue) (rest : List NodeValue) (b : Bool) → node.fixed ≡ b
+      → length (names_of (node ∷ rest)) ≡ cond (is_movable node) (1 + length (names_of rest)) (length (names_of rest))
+  by_test node rest true e = rw e refl
+  by_test node rest false e = rw e (let same : suc (length (names_of rest)) ≡ 1 + length (names_of rest) = omega arith in same)
+
+-- the solution of the network's system on an axis has an entry for each name
+pub solve_over : (axis : Axis) (design : DesignValue) (network : NetworkValue) (solve : Solve) → IsNetwork design network → IsSolveOf axis network solve → IsOver (length (names_of design.nodes)) solve
+solve_over axis design network solve made h =
+    let points = length-map network.points (point_of axis network.core) ∙ network_counted design network made ∙ sym (names_counted design.nodes) in
+    record { lo = h.least.in_boxes.all ∙ points; hi = h.greatest.in_boxes.all ∙ points }
+
+-- a point that is too heavy, and one from which no chain leads, are points of the design
+pub heavy_there : (design : DesignValue) (point : ℕ) → IsFirstFault design (Heavy point) → point < count_by is_movable design.nodes
+heavy_there design point h = rw points_counted at h.2.here.0
+
+pub loose_there : (design : DesignValue) (point : ℕ) → IsFirstLoose design point → point < count_by is_movable design.nodes
+loose_there design point h =
+    let there = rw length-map at h.first.there in
+    rw (network_counted design h.network h.made) at there
