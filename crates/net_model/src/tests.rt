@@ -210,12 +210,12 @@ fn cells(alloc: Global, count: u32) -> Result<String, AllocError> {
 }
 
 /// So many nets of 512 cells, and a last one of so many.
-fn crowded_nets(alloc: Global, count: u32, last: u32) -> Result<String, AllocError> {
-    let nets = count + 1;
-    let pins = 512 * count + last;
+fn crowded_nets(alloc: Global, count: u16, last: u16) -> Result<String, AllocError> {
+    let nets = u32::from(count) + 1;
+    let pins = 512 * u32::from(count) + u32::from(last);
     let mut text = format!(in alloc; "UCLA nets 1.0\nNumNets : {nets}\nNumPins : {pins}\n")?;
     for n in 0..nets {
-        let degree = if n < count { 512 } else { last };
+        let degree = if n < u32::from(count) { 512 } else { last };
         text.push_str(&format!(in alloc; "NetDegree : {degree}\n")?)?;
         for k in 0..degree {
             text.push_str(&format!(in alloc; "c{k} B\n")?)?;
@@ -244,8 +244,8 @@ fn a_wide_net_goes_before_too_many_pairs(rt: HostRuntime) {
 }
 
 /// So many nets of the pad and cell b, all of one name.
-fn repeated_nets(alloc: Global, count: u32) -> Result<String, AllocError> {
-    let pins = 2 * count;
+fn repeated_nets(alloc: Global, count: u16) -> Result<String, AllocError> {
+    let pins = 2 * u32::from(count);
     let mut text = format!(in alloc; "UCLA nets 1.0\nNumNets : {count}\nNumPins : {pins}\n")?;
     for _ in 0..count {
         text.push_str("NetDegree : 2 n\nl B\nb B\n")?;
