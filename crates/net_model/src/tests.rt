@@ -43,7 +43,8 @@ const B: Texts = Texts {
 
 /// Three cells and a pad in one row, without nets.
 const C: Texts = Texts {
-    nodes: b"UCLA nodes 1.0\nNumNodes : 4\nNumTerminals : 1\na 2 10\nb 2 10\nc 2 10\nl 0 0 terminal\n",
+    nodes: b"UCLA nodes 1.0\nNumNodes : 4\nNumTerminals : 1\na 2 10\nb 2 10\nc 2 10\n\
+        l 0 0 terminal\n",
     nets: b"UCLA nets 1.0\nNumNets : 0\nNumPins : 0\n",
     wts: b"UCLA wts 1.0\n",
     pl: b"UCLA pl 1.0\nl 4 5 : N /FIXED\n",
@@ -122,7 +123,8 @@ fn the_network_of_a_design_is_made(rt: HostRuntime) {
     assert!(rt; found.core() == core);
 }
 
-/// Nets and weights over the three cells and the pad, and what cell a then has of cell b and of the pad.
+/// Nets and weights over the three cells and the pad, and what cell a then has of cell b and of the
+/// pad.
 type Joined = (
     &'static [u8],
     &'static [u8],
@@ -140,8 +142,8 @@ const JOINED: [Joined; 5] = [
     ),
     // two nets of one pair
     (
-        b"UCLA nets 1.0\nNumNets : 2\nNumPins : 5\nNetDegree : 2\na B\nb B\nNetDegree : 3\nb B\na B\n\
-            c B\n",
+        b"UCLA nets 1.0\nNumNets : 2\nNumPins : 5\nNetDegree : 2\na B\nb B\n\
+            NetDegree : 3\nb B\na B\nc B\n",
         b"UCLA wts 1.0\n",
         Some(1260),
         None,
