@@ -7,3 +7,5 @@ mod MakingNets
 mod MakingEntries
 mod MakingWell
 mod MakingNetwork
+pub mod CliqueMarks
+pub mod CountingTerms

@@ -1,4 +1,5 @@
 pub mod Clique
+pub mod Marks
 pub mod Values
 pub mod WellFormed
 pub mod Network

@@ -1,7 +1,9 @@
 //! The clique of a net: its distinct nodes, and the weight of each pair of them.
 
-ghost use Rattle.std.specs.Prelude.{◌≡◌, ◌-◌, ◌*◌, ◌/◌, ◌≤◌, nat_lt, vec_len, if◌then◌else◌, IfOk, OnOk};
+ghost use Rattle.std.specs.Prelude.{◌≡◌, ◌-◌, ◌*◌, ◌/◌, ◌≤◌, nat_lt, [], length, vec_len};
+ghost use Rattle.std.specs.Prelude.{if◌then◌else◌, IfOk, OnOk};
 ghost use Rattle.net_model.specs.Clique.{first_pins};
+ghost use Rattle.net_model.specs.Marks.{AreMarked};
 ghost use Rattle.net_model.specs.Steps.{IsUnmarked, AreAtNodes};
 
 use book_design::Pin;
@@ -20,21 +22,60 @@ impl Clique {
     pub(crate) fn new(alloc: Global, nodes: usize) -> Result<Clique, AllocError>
         ensures { IfOk result (λ clique. IsUnmarked nodes clique.seen.items) }
     {
-        Err(AllocError)
+        let seen = vec![in alloc; false; nodes]?;
+        Ok(Clique {
+            pins: Vec::new(alloc),
+            seen,
+        })
     }
 
     /// Gathers the first pins of the distinct nodes of a net, in linear time.
+    ///
+    /// After an `Err` nodes may stay marked, and no further net can be gathered.
     pub(crate) fn gather(&mut self, pins: &[Pin]) -> Result<(), AllocError>
         requires unmarked { IsUnmarked (vec_len self.old.seen) self.old.seen.items }
         requires there { AreAtNodes (vec_len self.old.seen) pins.now }
         ensures pins { OnOk result (self.new.pins.items ≡ first_pins pins.now) }
         ensures unmarked { OnOk result (IsUnmarked (vec_len self.old.seen) self.new.seen.items) }
     {
-        Err(AllocError)
+        self.pins.clear();
+        keep_first(&mut self.pins, &mut self.seen, pins)?;
+        unmark(&mut self.seen, &self.pins);
+        Ok(())
     }
 }
 
-/// The weight of each pair of a net's nodes, by the net's weight and the number of its distinct nodes.
+/// Pushes each pin whose node isn't marked yet, and marks its node.
+fn keep_first(first: &mut Vec<Pin>, seen: &mut [bool], pins: &[Pin]) -> Result<(), AllocError>
+    requires empty { first.old.items ≡ [] }
+    requires unmarked { IsUnmarked (length seen.old) seen.old }
+    requires there { AreAtNodes (length seen.old) pins.now }
+    ensures first { OnOk result (first.new.items ≡ first_pins pins.now) }
+    ensures marked { OnOk result (AreMarked pins.now seen.new) }
+{
+    for pin in pins {
+        let node = pin.node as usize;
+        if !seen[node] {
+            seen[node] = true;
+            first.push(*pin)?;
+        }
+    }
+    Ok(())
+}
+
+/// Unmarks the nodes of the pins.
+fn unmark(seen: &mut [bool], pins: &[Pin])
+    requires marked { AreMarked pins.now seen.old }
+    requires there { AreAtNodes (length seen.old) pins.now }
+    ensures { IsUnmarked (length seen.old) seen.new }
+{
+    for pin in pins {
+        seen[pin.node as usize] = false;
+    }
+}
+
+/// The weight of each pair of a net's nodes, by the net's weight and the number of its distinct
+/// nodes.
 pub(crate) fn share(weight: u32, degree: usize) -> u64
     requires { weight ≤ 65535 }
     ensures { result ≡ (if nat_lt 1 degree then 840 * weight / (degree - 1) else 0) }
@@ -43,5 +84,38 @@ pub(crate) fn share(weight: u32, degree: usize) -> u64
         840 * u64::from(weight) / (degree as u64 - 1)
     } else {
         0
+    }
+}
+
+#[cfg(test)]
+mod tests {
+    use super::*;
+    use std::test::Fail;
+
+    #[test]
+    fn the_first_pin_of_each_node_is_gathered(rt: HostRuntime) -> Result<(), Fail> {
+        let mut clique = Clique::new(rt.alloc(), 3)?;
+        let early = Pin {
+            node: 2,
+            dx: -5,
+            dy: 0,
+        };
+        let late = Pin {
+            node: 2,
+            dx: 5,
+            dy: 0,
+        };
+        let other = Pin {
+            node: 0,
+            dx: 0,
+            dy: 1,
+        };
+        clique.gather(&[early, other, late])?;
+        assert_eq!(rt; clique.pins.as_slice(), [early, other].as_slice());
+
+        // No mark is left for the next net.
+        clique.gather(&[late, early])?;
+        assert_eq!(rt; clique.pins.as_slice(), [late].as_slice());
+        Ok(())
     }
 }
