@@ -9,3 +9,7 @@ mod MakingWell
 mod MakingNetwork
 pub mod CliqueMarks
 pub mod CountingTerms
+mod JoiningPins
+mod JoiningNets
+mod JoiningFresh
+mod JoiningSteps

@@ -6,3 +6,4 @@ pub mod Network
 pub mod Answers
 pub mod Webs
 pub mod Steps
+pub mod Joining
