@@ -1,5 +1,11 @@
 mod Movable
 pub mod CliqueNodes
+pub mod CliqueMarks
+pub mod CountingTerms
+mod JoiningPins
+mod JoiningNets
+mod JoiningFresh
+mod JoiningSteps
 mod MergingSums
 mod MergingRuns
 mod MakingPoints
@@ -7,9 +13,3 @@ mod MakingNets
 mod MakingEntries
 mod MakingWell
 mod MakingNetwork
-pub mod CliqueMarks
-pub mod CountingTerms
-mod JoiningPins
-mod JoiningNets
-mod JoiningFresh
-mod JoiningSteps
