@@ -1,16 +1,16 @@
-mod MergingSums
-mod MergingRuns
+mod Movable
 pub mod CliqueNodes
 pub mod CliqueMarks
 pub mod CountingTerms
-mod Movable
-mod MakingPoints
-mod MakingNets
-mod MakingEntries
-mod MakingWell
-mod MakingNetwork
-mod MakingOrder
 mod JoiningPins
 mod JoiningNets
 mod JoiningFresh
 mod JoiningSteps
+mod MergingSums
+mod MergingRuns
+mod MakingPoints
+mod MakingNets
+mod MakingEntries
+mod MakingOrder
+mod MakingWell
+mod MakingNetwork

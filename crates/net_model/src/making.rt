@@ -26,8 +26,8 @@ const MOST_WEIGHT: u64 = 1 << 40;
 
 /// The network of a design, or the first fault of its nets.
 ///
-/// It takes time linear in nodes and pins, and t log t in the pair terms t. That they are too many is found before memory is
-/// taken for them.
+/// It takes time linear in nodes and pins, and t log t in the pair terms t. That they are too many is
+/// found before memory is taken for them.
 pub fn network(alloc: Global, design: &Design<'_>) -> Result<Network, NetError>
     ensures { Answers design.now result }
 {
@@ -39,7 +39,8 @@ pub fn network(alloc: Global, design: &Design<'_>) -> Result<Network, NetError>
     network_of_few(alloc, design, &mut clique)
 }
 
-/// The network of a design that has no net too many and none too wide, or its first heavy point.
+/// The network of a design without a net that is too wide and without too many pair terms, or its
+/// first heavy point.
 fn network_of_few(
     alloc: Global,
     design: &Design<'_>,

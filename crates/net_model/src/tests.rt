@@ -43,7 +43,8 @@ const B: Texts = Texts {
 
 /// Three cells and a pad in one row, without nets.
 const C: Texts = Texts {
-    nodes: b"UCLA nodes 1.0\nNumNodes : 4\nNumTerminals : 1\na 2 10\nb 2 10\nc 2 10\nl 0 0 terminal\n",
+    nodes: b"UCLA nodes 1.0\nNumNodes : 4\nNumTerminals : 1\na 2 10\nb 2 10\nc 2 10\n\
+        l 0 0 terminal\n",
     nets: b"UCLA nets 1.0\nNumNets : 0\nNumPins : 0\n",
     wts: b"UCLA wts 1.0\n",
     pl: b"UCLA pl 1.0\nl 4 5 : N /FIXED\n",
@@ -122,7 +123,8 @@ fn the_network_of_a_design_is_made(rt: HostRuntime) {
     assert!(rt; found.core() == core);
 }
 
-/// Nets and weights over the three cells and the pad, and what cell a then has of cell b and of the pad.
+/// Nets and weights over the three cells and the pad, and what cell a then has of cell b and of the
+/// pad.
 type Joined = (
     &'static [u8],
     &'static [u8],
@@ -140,8 +142,8 @@ const JOINED: [Joined; 5] = [
     ),
     // two nets of one pair
     (
-        b"UCLA nets 1.0\nNumNets : 2\nNumPins : 5\nNetDegree : 2\na B\nb B\nNetDegree : 3\nb B\na B\n\
-            c B\n",
+        b"UCLA nets 1.0\nNumNets : 2\nNumPins : 5\nNetDegree : 2\na B\nb B\n\
+            NetDegree : 3\nb B\na B\nc B\n",
         b"UCLA wts 1.0\n",
         Some(1260),
         None,
@@ -210,12 +212,12 @@ fn cells(alloc: Global, count: u32) -> Result<String, AllocError> {
 }
 
 /// So many nets of 512 cells, and a last one of so many.
-fn crowded_nets(alloc: Global, count: u32, last: u32) -> Result<String, AllocError> {
-    let nets = count + 1;
-    let pins = 512 * count + last;
+fn crowded_nets(alloc: Global, count: u16, last: u16) -> Result<String, AllocError> {
+    let nets = u32::from(count) + 1;
+    let pins = 512 * u32::from(count) + u32::from(last);
     let mut text = format!(in alloc; "UCLA nets 1.0\nNumNets : {nets}\nNumPins : {pins}\n")?;
     for n in 0..nets {
-        let degree = if n < count { 512 } else { last };
+        let degree = if n < u32::from(count) { 512 } else { last };
         text.push_str(&format!(in alloc; "NetDegree : {degree}\n")?)?;
         for k in 0..degree {
             text.push_str(&format!(in alloc; "c{k} B\n")?)?;
@@ -244,8 +246,8 @@ fn a_wide_net_goes_before_too_many_pairs(rt: HostRuntime) {
 }
 
 /// So many nets of the pad and cell b, all of one name.
-fn repeated_nets(alloc: Global, count: u32) -> Result<String, AllocError> {
-    let pins = 2 * count;
+fn repeated_nets(alloc: Global, count: u16) -> Result<String, AllocError> {
+    let pins = 2 * u32::from(count);
     let mut text = format!(in alloc; "UCLA nets 1.0\nNumNets : {count}\nNumPins : {pins}\n")?;
     for _ in 0..count {
         text.push_str("NetDegree : 2 n\nl B\nb B\n")?;
