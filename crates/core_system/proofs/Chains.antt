@@ -85,3 +85,8 @@ has_weight network p net inside chain = by_cases (leads_on (joints_of network) p
   by_cases (inr some) =
       let many : length (joint_at (joints_of network) p).near ≡ length own.near = ap (λ (j : Joint). length j.near) (joint_is network p inside) ∙ length-map own.near (λ (n : Near). n.point) in
       omega (arith, nears_weigh (length network.points) p own.near good.near (omega arith))
+
+-- where each point of the network has a chain, each of the system has
+pub system_chains : (axis : Axis) (network : NetworkValue) → IsNet network → ((p : ℕ) → p < length network.points → HasChain (joints_of network) p)
+    → (p : ℕ) → p < length (system_of axis network) → HasChain (system_joints (system_of axis network)) p
+system_chains axis network net chains p inside = same_chains axis network p net (chains p (omega (arith, length_system axis network)))

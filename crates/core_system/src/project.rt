@@ -5,6 +5,7 @@ ghost use Rattle.pad_reach.specs.Chain.{HasChain};
 ghost use Rattle.book_files.specs.Ranges.{IsInRange};
 ghost use Rattle.book_design.specs.WellFormed.{IsGoodCore};
 ghost use Rattle.net_model.specs.Values.{point_at};
+ghost use Rattle.relax_system.specs.System.{joints_of as system_joints};
 ghost use Rattle.net_model.specs.Webs.{joints_of};
 ghost use Rattle.core_system.specs.CoreSystem.{low_end, high_end, place_of, coordinate, clamped};
 ghost use Rattle.core_system.specs.CoreSystem.{as_neighbour, point_of, system_of};
@@ -22,12 +23,14 @@ const SHIFT: i64 = 1_000_000_000_000;
 /// The system of a network on an axis, where all points share the core.
 ///
 /// Coordinates are millionths shifted by 1,000,000,000,000. The box of each point is the core's
-/// range. The fixed pins of a point are its constants, each clamped to that range. It takes linear
-/// time, and Memory is the only refusal.
+/// range. The fixed pins of a point are its constants, each clamped to that range. The chains of the
+/// network are the system's. It takes linear time, and Memory is the only refusal.
 pub fn core_system(alloc: Global, network: &Network, axis: Axis) -> Result<System, Memory>
     requires chains { (p : ℕ) → p < length network.now.points
         → HasChain (joints_of network.now) p }
-    ensures { IfOk result (λ system. system ≡ system_of axis network.now) }
+    ensures system { IfOk result (λ system. system ≡ system_of axis network.now) }
+    ensures chains { IfOk result (λ system. (p : ℕ) → p < length system
+        → HasChain (system_joints system) p) }
 {
     let mut points = Points::new(alloc);
     for p in 0..network.points() {
