@@ -1,17 +1,19 @@
 //! The top call: from the words of a command line and a folder of files to a report.
 //!
 //! The flow is: read the files, join them to a design, make its network, find that each point reaches a pad, make its
-//! system on each axis, solve that from below and from above, report. What comes in are words, a folder, a sink for the
-//! report and a gate; what goes out is a status. The one contract is that of `proud`.
+//! system on each axis, solve that from below and from above by a crew of seats, report. What comes in are words, a folder,
+//! a sink for the report and a gate; what goes out is a status. The one contract is that of `proud`.
 //!
 //! The placer is modelled on PROUD (R.-S. Tsay, E. S. Kuh, C.-P. Hsu, IEEE Design & Test of Computers, 1988). It departs
 //! from it in that the equations are solved in whole numbers, from both sides, without over-relaxation.
 #![tactic(auto)]
 
+mod crew;
 mod laws;
 mod lines;
 mod reading;
 mod report;
+mod request;
 mod solution;
 mod solving;
 mod status;

@@ -6,6 +6,7 @@ ghost use Rattle.proud_top.specs.Counts.{Counts};
 ghost use Rattle.proud_top.specs.Steps.{Loads, LoadsWeights, GivesWeights, IsTold};
 ghost use Rattle.proud_top.specs.Stops.{Places};
 
+use crate::crew::Crew;
 use crate::solving::solved;
 use crate::status::Refusal;
 use crate::stop::Stop;
@@ -13,12 +14,18 @@ use book_files::{
     FileKind, LoadError, ReadError, WeightFile, load, read_aux, read_nets, read_nodes, read_pl,
     read_scl, read_wts,
 };
-use book_outer::Folder;
+use book_outer::{Folder, Gate};
 use book_text::Memory;
 use std::alloc::Global;
+use std::thread::Threads;
 
 /// The report of the design that the word names. Each file is loaded and read before the next is begun.
-pub(crate) fn placed<F: Folder>(alloc: Global, folder: &mut F, word: &str) -> Result<Vec<u8>, Stop>
+pub(crate) fn placed<R: Threads + Sync, F: Folder, G: Gate>(
+    crew: &Crew<'_, R, G>,
+    alloc: Global,
+    folder: &mut F,
+    word: &str,
+) -> Result<Vec<u8>, Stop>
     ensures places { Places (F.files folder.old) word.now
         (record { begun = F.begun folder.old; missed = F.missed folder.old; faults = F.read_faults folder.old })
         (record { begun = F.begun folder.new; missed = F.missed folder.new; faults = F.read_faults folder.new }) result }
@@ -37,7 +44,7 @@ pub(crate) fn placed<F: Folder>(alloc: Global, folder: &mut F, word: &str) -> Re
     let places = told(alloc, FileKind::Pl, read_pl(alloc, &place_text))?;
     let row_text = load_beside(alloc, folder, FileKind::Scl, word, names.scl)?;
     let rows = told(alloc, FileKind::Scl, read_scl(alloc, &row_text))?;
-    solved(alloc, &nodes, &nets, weights.as_ref(), &places, &rows)
+    solved(crew, alloc, &nodes, &nets, weights.as_ref(), &places, &rows)
 }
 
 /// The answer of a reader, with the kind of the file at a fault.

@@ -5,18 +5,20 @@ ghost use Rattle.pad_reach.specs.Chain.{HasChain};
 ghost use Rattle.net_model.specs.Webs.{joints_of};
 ghost use Rattle.proud_top.specs.Stops.{IsSolveOf};
 
+use crate::crew::Crew;
+use book_outer::Gate;
 use book_text::Memory;
 use core_system::{Axis, core_system};
 use net_model::Network;
-use relax_system::{Values, greatest_plain, least_plain};
 use std::alloc::Global;
 use std::marker::Model;
+use std::thread::Threads;
 
 /// The lower and the upper coordinates of the points on an axis.
 #[derive(Drop)]
 pub(crate) struct Solution {
-    lo: Values,
-    hi: Values,
+    lo: Vec<u64>,
+    hi: Vec<u64>,
 }
 
 impl Model for Solution {
@@ -24,18 +26,23 @@ impl Model for Solution {
 
     ghost Value = { Solve };
 
-    ghost view = { λ s. record { lo = s.lo; hi = s.hi } };
+    ghost view = { λ s. record { lo = s.lo.items; hi = s.hi.items } };
 }
 
 impl Solution {
     /// The least and the greatest vector of the network's system on an axis.
-    pub(crate) fn new(alloc: Global, network: &Network, axis: Axis) -> Result<Solution, Memory>
+    pub(crate) fn new<R: Threads + Sync, G: Gate>(
+        crew: &Crew<'_, R, G>,
+        alloc: Global,
+        network: &Network,
+        axis: Axis,
+    ) -> Result<Solution, Memory>
         requires { (p : ℕ) → p < length network.now.points → HasChain (joints_of network.now) p }
         ensures { IfOk result (IsSolveOf axis network.now) }
     {
         let system = core_system(alloc, network, axis)?;
-        let lo = least_plain(alloc, &system)?;
-        let hi = greatest_plain(alloc, &system)?;
+        let lo = crew.least(alloc, &system)?;
+        let hi = crew.greatest(alloc, &system)?;
         Ok(Solution { lo, hi })
     }
 
@@ -46,6 +53,6 @@ impl Solution {
         ensures lo { result.0 ≡ slice_index self.now.lo point }
         ensures hi { result.1 ≡ slice_index self.now.hi point }
     {
-        (self.lo.as_slice()[point], self.hi.as_slice()[point])
+        (self.lo[point], self.hi[point])
     }
 }

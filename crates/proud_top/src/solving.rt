@@ -12,20 +12,24 @@ ghost use Rattle.proud_top.specs.Steps.{Solves, SolvesDesign, StopsDesign, IsRef
 ghost use Rattle.proud_top.specs.Stops.{IsDesignReport};
 ghost use Rattle.proud_top.specs.Refused.{node_of_fault, point_of_fault};
 
+use crate::crew::Crew;
 use crate::report::report_text;
 use crate::solution::Solution;
 use crate::status::Refusal;
 use crate::stop::Stop;
 use book_design::{Design, DesignFault, JoinError, join_design};
 use book_files::{NetFile, NodeFile, NodeLine, PlaceFile, RowFile, WeightFile};
+use book_outer::Gate;
 use book_text::Memory;
 use core_system::Axis;
 use net_model::{NetError, NetFault, Network, network};
 use pad_reach::{ReachError, reach};
 use std::alloc::Global;
+use std::thread::Threads;
 
 /// The report of the design that these files make, or why it is refused.
-pub(crate) fn solved(
+pub(crate) fn solved<R: Threads + Sync, G: Gate>(
+    crew: &Crew<'_, R, G>,
     alloc: Global,
     nodes: &NodeFile<'_>,
     nets: &NetFile<'_>,
@@ -39,7 +43,7 @@ pub(crate) fn solved(
     ensures { Solves (record { nodes = nodes.now; nets = nets.now; weights = option_map (λ w. w.now) weights.entry; places = places.now; rows = rows.now }) result }
 {
     match join_design(alloc, nodes, nets, weights, places, rows) {
-        Ok(design) => reported(alloc, &design),
+        Ok(design) => reported(crew, alloc, &design),
         Err(JoinError::Fault(fault)) => Err(refused(alloc, fault, nodes.as_slice())),
         Err(JoinError::Memory) => Err(Stop::Memory),
     }
@@ -57,36 +61,50 @@ fn refused(alloc: Global, fault: DesignFault, nodes: &[NodeLine<'_>]) -> Stop
 }
 
 /// The report of a design, or the first fault of its nets, or the first point that reaches no pad.
-fn reported(alloc: Global, design: &Design<'_>) -> Result<Vec<u8>, Stop>
+fn reported<R: Threads + Sync, G: Gate>(
+    crew: &Crew<'_, R, G>,
+    alloc: Global,
+    design: &Design<'_>,
+) -> Result<Vec<u8>, Stop>
     ensures { SolvesDesign design.now result }
 {
     match network(alloc, design) {
-        Ok(network) => reached(alloc, design, &network),
+        Ok(network) => reached(crew, alloc, design, &network),
         Err(NetError::Fault(fault)) => Err(net_refused(alloc, design, fault)),
         Err(NetError::Memory) => Err(Stop::Memory),
     }
 }
 
 /// The report of a design with this network, or the first point that reaches no pad.
-fn reached(alloc: Global, design: &Design<'_>, network: &Network) -> Result<Vec<u8>, Stop>
+fn reached<R: Threads + Sync, G: Gate>(
+    crew: &Crew<'_, R, G>,
+    alloc: Global,
+    design: &Design<'_>,
+    network: &Network,
+) -> Result<Vec<u8>, Stop>
     requires { IsNetwork design.now network.now }
     ensures { SolvesDesign design.now result }
 {
     match reach(alloc, network) {
-        Ok(_) => Ok(told(alloc, design, network)?),
+        Ok(_) => Ok(told(crew, alloc, design, network)?),
         Err(ReachError::Unanchored(point)) => Err(unanchored(alloc, design, point)),
         Err(ReachError::Memory) => Err(Stop::Memory),
     }
 }
 
 /// The report of a design with this network, in which each point reaches a pad: it is solved on both axes.
-fn told(alloc: Global, design: &Design<'_>, network: &Network) -> Result<Vec<u8>, Memory>
+fn told<R: Threads + Sync, G: Gate>(
+    crew: &Crew<'_, R, G>,
+    alloc: Global,
+    design: &Design<'_>,
+    network: &Network,
+) -> Result<Vec<u8>, Memory>
     requires made { IsNetwork design.now network.now }
     requires chains { (p : ℕ) → p < length network.now.points → HasChain (joints_of network.now) p }
     ensures { IfOk result (λ text. IsDesignReport design.now text.items) }
 {
-    let x = Solution::new(alloc, network, Axis::X)?;
-    let y = Solution::new(alloc, network, Axis::Y)?;
+    let x = Solution::new(crew, alloc, network, Axis::X)?;
+    let y = Solution::new(crew, alloc, network, Axis::Y)?;
     report_text(alloc, design.nodes(), &x, &y)
 }
 

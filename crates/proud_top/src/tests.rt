@@ -3,11 +3,13 @@ ghost use Rattle.book_outer.specs.Files.{AreNamesDistinct};
 
 use crate::lines::refusal_line;
 use crate::{DesignFault, FileKind, NetFault, Refusal, Status, TextFault, TextKind, proud};
-use book_outer::{Calls, Files, MemFolder, MemSink, OpenGate, Words};
+use book_outer::{Calls, Files, Gate, MemFolder, MemSink, OpenGate, Words};
 use book_text::Memory;
 use std::alloc::Global;
 use std::process::Abort;
+use std::sync::atomic::{AtomicBool, Ordering};
 use std::test::Fail;
+use std::thread::Threads;
 
 /// The texts of a design. That of the weights is read only where the aux file names it.
 #[derive(Clone, Copy)]
@@ -190,11 +192,15 @@ fn words_of(alloc: Global, words: &[&str]) -> Result<Words, Memory> {
 }
 
 /// Asserts the status, what the report got, and that the files are as they were.
-fn assert_case(rt: &impl Abort, alloc: Global, case: Case<'_>) -> Result<(), Memory> {
+fn assert_case<R: Threads + Abort + Sync>(
+    rt: &R,
+    alloc: Global,
+    case: Case<'_>,
+) -> Result<(), Memory> {
     let mut folder = MemFolder::new(files_of(alloc, case.texts)?, calls_of(alloc, case.call)?);
     let mut report = MemSink::new(alloc, calls_of(alloc, case.put)?);
     let words = words_of(alloc, case.words)?;
-    let status = proud(alloc, &words, &mut folder, &mut report, &OpenGate);
+    let status = proud(rt, alloc, &words, &mut folder, &mut report, &OpenGate);
     assert_eq!(rt; status, case.status);
     assert!(rt; report.written() == case.report, "{status:?}");
     assert!(rt; folder.file("a.aux") == Some(case.texts.aux));
@@ -488,8 +494,8 @@ fn lines_of(
 }
 
 /// One cell with so many nets to a pad, each of the greatest weight.
-fn assert_many_nets(
-    rt: &impl Abort,
+fn assert_many_nets<R: Threads + Abort + Sync>(
+    rt: &R,
     alloc: Global,
     nets: u32,
     status: Status,
@@ -519,8 +525,8 @@ fn points_that_are_too_heavy_are_told(rt: HostRuntime) -> Result<(), Fail> {
 }
 
 /// One net of two cells and so many pads, all at one place.
-fn assert_many_pads(
-    rt: &impl Abort,
+fn assert_many_pads<R: Threads + Abort + Sync>(
+    rt: &R,
     alloc: Global,
     pads: u32,
     status: Status,
@@ -575,9 +581,12 @@ fn nets_with_too_many_edges_are_told(rt: HostRuntime) -> Result<(), Fail> {
     Ok(())
 }
 
+/// The line for words of another form.
+const USAGE: &[u8] = b"usage: proud [--seats N] DESIGN\n";
+
 #[test]
 fn others_are_told(rt: HostRuntime) -> Result<(), Fail> {
-    let usage = case_of(one_cell(), Status::Usage, b"usage: proud DESIGN\n");
+    let usage = case_of(one_cell(), Status::Usage, USAGE);
     let tall = b"UCLA nodes 1.0\nNumNodes : 3\na 2 11\nl 0 0 terminal\nr 0 0 terminal\n";
     let refused = case_of(
         with_nodes(tall),
@@ -661,12 +670,117 @@ fn others_are_told(rt: HostRuntime) -> Result<(), Fail> {
 }
 
 #[test]
+fn seats_may_be_asked_for(rt: HostRuntime) -> Result<(), Fail> {
+    let told: &'static [u8] =
+        b"a 3333333 3333334 4999999 5000001\nb 6666666 6666667 4999999 5000001\n";
+    let placed = case_of(two_cells(), Status::Done, told);
+    let good: [&'static [&'static str]; 4] = [
+        &["proud", "--seats", "1", "a.aux"],
+        &["proud", "--seats", "7", "a.aux"],
+        &["proud", "--seats", "64", "a.aux"],
+        &["proud", "--seats", "04", "a.aux"],
+    ];
+    for words in good {
+        assert_case(&rt, rt.alloc(), Case { words, ..placed })?;
+    }
+    let usage = case_of(two_cells(), Status::Usage, USAGE);
+    let bad: [&'static [&'static str]; 7] = [
+        &["proud", "--seats", "0", "a.aux"],
+        &["proud", "--seats", "65", "a.aux"],
+        &["proud", "--seats", "x", "a.aux"],
+        &["proud", "--seats", "4"],
+        &["proud", "a.aux", "--seats", "4"],
+        &["proud", "-seats", "4", "a.aux"],
+        &["proud", "--seats", "4", "--seats", "4", "a.aux"],
+    ];
+    for words in bad {
+        assert_case(&rt, rt.alloc(), Case { words, ..usage })?;
+    }
+    // The only word is the name of a design.
+    let unread = case_of(
+        two_cells(),
+        Status::ReadFault(FileKind::Aux),
+        b"proud: cannot read aux\n",
+    );
+    let words = &["proud", "--seats"];
+    assert_case(&rt, rt.alloc(), Case { words, ..unread })?;
+    // Without a point no crew is needed.
+    let words = &["proud", "--seats", "2", "a.aux"];
+    let empty = case_of(terminals(), Status::Done, b"");
+    assert_case(&rt, rt.alloc(), Case { words, ..empty })?;
+    Ok(())
+}
+
+/// How often a seat looks for the other one.
+const TURNS: u64 = 50_000_000;
+
+/// Whether a seat has passed the gate, and whether it saw at its first pass that the other one had.
+#[derive(Drop)]
+struct Flags {
+    passed: AtomicBool,
+    met: AtomicBool,
+}
+
+impl Flags {
+    fn new() -> Flags {
+        Flags {
+            passed: AtomicBool::new(false),
+            met: AtomicBool::new(false),
+        }
+    }
+
+    /// At the first pass it looks for the other seat, for so many turns at most.
+    fn pass(&self, other: &Flags) {
+        if self.passed.swap(true, Ordering::SeqCst) {
+            return;
+        }
+        let met = (0..TURNS).any(|_| other.passed.load(Ordering::SeqCst));
+        self.met.store(met, Ordering::SeqCst);
+    }
+}
+
+/// Holds each of two seats after its first relaxation until the other one has made one.
+#[derive(Drop)]
+struct Meeting {
+    first: Flags,
+    second: Flags,
+}
+
+impl Gate for Meeting {
+    fn pass(&self, seat: usize, _point: usize) {
+        match seat {
+            0 => self.first.pass(&self.second),
+            1 => self.second.pass(&self.first),
+            _ => {}
+        }
+    }
+}
+
+/// Each of the two seats that are asked for sees the other one inside its first sweep.
+#[test]
+fn proud_meets(rt: HostRuntime) -> Result<(), Fail> {
+    let alloc = rt.alloc();
+    let mut folder = MemFolder::new(files_of(alloc, two_cells())?, Calls::new(alloc));
+    let mut report = MemSink::new(alloc, Calls::new(alloc));
+    let words = words_of(alloc, &["proud", "--seats", "2", "a.aux"])?;
+    let gate = Meeting {
+        first: Flags::new(),
+        second: Flags::new(),
+    };
+    let status = proud(&rt, alloc, &words, &mut folder, &mut report, &gate);
+    assert_eq!(rt; status, Status::Done);
+    assert!(rt; gate.first.met.load(Ordering::SeqCst));
+    assert!(rt; gate.second.met.load(Ordering::SeqCst));
+    Ok(())
+}
+
+#[test]
 fn files_stand_beside_the_aux_file(rt: HostRuntime) -> Result<(), Fail> {
     let alloc = rt.alloc();
     let mut folder = MemFolder::new(files_below(alloc, one_cell())?, Calls::new(alloc));
     let mut report = MemSink::new(alloc, Calls::new(alloc));
     let words = words_of(alloc, &["proud", "d/a.aux"])?;
-    let status = proud(alloc, &words, &mut folder, &mut report, &OpenGate);
+    let status = proud(&rt, alloc, &words, &mut folder, &mut report, &OpenGate);
     assert_eq!(rt; status, Status::Done);
     let expected: &[u8] = b"a 5000000 5000000 5000000 5000000\n";
     assert!(rt; report.written() == expected);
@@ -684,7 +798,7 @@ fn absent_files_are_told(rt: HostRuntime) -> Result<(), Fail> {
         let mut folder = MemFolder::new(files_without(alloc, texts)?, Calls::new(alloc));
         let mut report = MemSink::new(alloc, Calls::new(alloc));
         let words = words_of(alloc, A)?;
-        let status = proud(alloc, &words, &mut folder, &mut report, &OpenGate);
+        let status = proud(&rt, alloc, &words, &mut folder, &mut report, &OpenGate);
         assert_eq!(rt; status, Status::ReadFault(kind));
         assert!(rt; report.written() == line);
     }

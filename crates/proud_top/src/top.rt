@@ -1,4 +1,4 @@
-ghost use Rattle.std.specs.Prelude.{◌≡◌, ◌⊎◌, ℕ, ◌<◌, List, length, take, Some, None, IfSome, MatchOption};
+ghost use Rattle.std.specs.Prelude.{◌≡◌, ◌⊎◌, ℕ, ◌<◌, List, length, take, Some, None, IfSome};
 ghost use Rattle.std.specs.Io.KnownBytes.{Appends};
 ghost use Rattle.book_outer.specs.Cause.{Rose};
 ghost use Rattle.book_outer.specs.Files.{FileEntry};
@@ -20,25 +20,31 @@ ghost use Rattle.proud_top.specs.Counts.{Counts, IsFaultPlace, IsLastBegun, last
 ghost use Rattle.proud_top.specs.Outcome.{Outcome, Tells, PutsReport};
 ghost use Rattle.proud_top.specs.Answers.{GotReport, GotReportFront, GotSomeReport, GotSomeFront, GotLine, GotRefusal, GotDueFront, GotSomeDueFront};
 
+use crate::crew::Crew;
 use crate::laws::laws;
 use crate::lines::{fault_line, refusal_line};
 use crate::reading::placed;
+use crate::request::requested;
 use crate::status::{Refusal, Status};
 use crate::stop::Stop;
 use book_files::FileKind;
 use book_outer::{Folder, Gate, Sink, Trouble, Words};
 use std::alloc::Global;
+use std::thread::Threads;
 
 /// Places the design that the words name, and reports for each cell its lower and its upper coordinate on each axis.
 ///
-/// The words are the program's name and the name of the design's aux file. The report gets one line per cell,
-/// `NAME XLO XHI YLO YHI` in millionths of a Bookshelf unit, or one line that says what is wrong.
-pub fn proud<F: Folder, S: Sink, G: Gate>(
+/// The words are the program's name, `--seats N` where a number of seats is asked for, and the name of the design's aux
+/// file. The report gets one line per cell, `NAME XLO XHI YLO YHI` in millionths of a Bookshelf unit, or one line that says
+/// what is wrong. It doesn't depend on the number of seats, which are 4 where none is asked for. The gate is told of the
+/// first sweep of each crew.
+pub fn proud<R: Threads + Sync, F: Folder, S: Sink, G: Gate>(
+    rt: &R,
     alloc: Global,
     words: &Words,
     folder: &mut F,
     report: &mut S,
-    _gate: &G,
+    gate: &G,
 ) -> Status
     // Done: the files are accepted and make a design without a fault of its nets, in which each point reaches a pad, and the
     // report got exactly a line per point with its two coordinates on each axis.
@@ -126,14 +132,21 @@ pub fn proud<F: Folder, S: Sink, G: Gate>(
     ensures writes { F.write_faults folder.new ≡ F.write_faults folder.old }
 {
     laws();
-    run(alloc, words, folder, report)
+    run(rt, alloc, words, folder, report, gate)
 }
 
 /// The line that is put where the words have another form.
-const USAGE_LINE: &[u8] = b"usage: proud DESIGN\n";
+const USAGE_LINE: &[u8] = b"usage: proud [--seats N] DESIGN\n";
 
 /// The run, whose outcome is told as a whole.
-fn run<F: Folder, S: Sink>(alloc: Global, words: &Words, folder: &mut F, report: &mut S) -> Status
+fn run<R: Threads + Sync, F: Folder, S: Sink, G: Gate>(
+    rt: &R,
+    alloc: Global,
+    words: &Words,
+    folder: &mut F,
+    report: &mut S,
+    gate: &G,
+) -> Status
     ensures outcome { Outcome (F.files folder.old) words.now
         (record { begun = F.begun folder.old; missed = F.missed folder.old; faults = F.read_faults folder.old })
         (record { begun = F.begun folder.new; missed = F.missed folder.new; faults = F.read_faults folder.new })
@@ -146,25 +159,15 @@ fn run<F: Folder, S: Sink>(alloc: Global, words: &Words, folder: &mut F, report:
     ensures files { F.files folder.new ≡ F.files folder.old }
     ensures writes { F.write_faults folder.new ≡ F.write_faults folder.old }
 {
-    let Some(word) = requested(words) else {
+    let Some(request) = requested(words) else {
         return tell(report, Status::Usage, USAGE_LINE);
     };
-    match placed(alloc, folder, word) {
+    let crew = Crew::new(rt, gate, request.seats);
+    match placed(&crew, alloc, folder, request.design) {
         Ok(text) => put_report(report, &text),
         Err(Stop::Refused(refusal, name)) => tell_refusal(alloc, report, refusal, &name),
         Err(Stop::Unread(kind)) => tell_fault(alloc, report, kind),
         Err(Stop::Memory) => Status::Memory,
-    }
-}
-
-/// The design's word, where exactly one word stands behind the program's name.
-fn requested(words: &Words) -> Option<&str>
-    ensures { MatchOption result (requested words.now ≡ None) (λ word. requested words.now ≡ Some word.now) }
-{
-    if words.len() == 2 {
-        Some(words.word(1))
-    } else {
-        None
     }
 }
 

@@ -14,10 +14,10 @@ use Rattle.proud_top.proofs.Points.{solve_over}
 use Rattle.proud_top.proofs.solving.told.Goals as goal
 
 pub report_text-requires-clause-x : goal.report_text-requires-clause-x
-report_text-requires-clause-x c = rw c.nodes.ensures.nodes (solve_over X c.args.design.now c.args.network.now _ c.requires.made c.in_ok-x.ensures)
+report_text-requires-clause-x g c = rw c.nodes.ensures.nodes (solve_over X c.args.design.now c.args.network.now _ c.requires.made c.in_ok-x.ensures)
 
 pub report_text-requires-clause-y : goal.report_text-requires-clause-y
-report_text-requires-clause-y c = rw c.nodes.ensures.nodes (solve_over Y c.args.design.now c.args.network.now _ c.requires.made c.in_ok-y.ensures)
+report_text-requires-clause-y g c = rw c.nodes.ensures.nodes (solve_over Y c.args.design.now c.args.network.now _ c.requires.made c.in_ok-y.ensures)
 
 is_report : (design : DesignValue) (network : NetworkValue) (x y : Solve) (result : Result (Vec ℕ Global) Memory)
     → IsNetwork design network → ((p : ℕ) → p < length network.points → HasChain (joints_of network) p) → IsSolveOf X network x → IsSolveOf Y network y
@@ -26,4 +26,4 @@ is_report design network x y (Ok text) made chains xs ys h = record { network = 
 is_report design network x y (Err error) made chains xs ys h = tt
 
 pub returns : goal.returns
-returns c = is_report c.args.design.now c.args.network.now _ _ c.report_text.result c.requires.made c.requires.chains c.in_ok-x.ensures c.in_ok-y.ensures (rw c.nodes.ensures.nodes at c.report_text.ensures)
+returns g c = is_report c.args.design.now c.args.network.now _ _ c.report_text.result c.requires.made c.requires.chains c.in_ok-x.ensures c.in_ok-y.ensures (rw c.nodes.ensures.nodes at c.report_text.ensures)
