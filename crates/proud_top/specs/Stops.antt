@@ -1,9 +1,11 @@
 -- What a run up to its report answers: the report, or what stopped it.
-use Rattle.std.specs.Prelude.{◌≡◌, ℕ, ◌<◌, List, length, Option, Result, Ok, Err, IfSome, Vec}
+use Rattle.std.specs.Prelude.{◌≡◌, ℕ, ◌<◌, List, length, ℤ, Option, Result, Ok, Err, IfSome, Vec}
 use Rattle.std.specs.declared.alloc.Global.{Global}
 use Rattle.book_outer.specs.Cause.{Rose}
 use Rattle.book_outer.specs.Files.{FileEntry}
+use Rattle.relax_system.specs.Means.{AtMost, IsFloorFixed, IsCeilFixed}
 use Rattle.relax_system.specs.Extremal.{IsLeast, IsGreatest}
+use Rattle.relax_system.specs.Exact.{IsExact, IsBetween}
 use Rattle.book_files.specs.declared.records.FileKind.TheVariants.{Scl}
 use Rattle.book_files.specs.Entries.{AuxEntry}
 use Rattle.book_design.specs.Files.{Files}
@@ -24,10 +26,15 @@ use Rattle.proud_top.specs.Accepted.{Accepts}
 use Rattle.proud_top.specs.Refused.{IsRefusedAs, IsNodeName}
 use Rattle.proud_top.specs.Counts.{Counts, IsFaultAt, IsLast, last_kind}
 
--- the least and the greatest vector of the network's system on the axis
+-- The least and the greatest vector of the network's system on the axis. They are fixed points of the rounded-down and of the
+-- rounded-up means, and every exact solution lies between them.
 pub record IsSolveOf (axis : Axis) (network : NetworkValue) (solve : Solve) : Type 0 where
   pub least : IsLeast (system_of axis network) solve.lo
   pub greatest : IsGreatest (system_of axis network) solve.hi
+  pub lower_fixed : IsFloorFixed (system_of axis network) solve.lo
+  pub upper_fixed : IsCeilFixed (system_of axis network) solve.hi
+  pub ordered : AtMost solve.lo solve.hi
+  pub encloses : (d : ℕ) (z : List ℤ) → IsExact (system_of axis network) d z → IsBetween solve.lo solve.hi d z
 
 -- The text is the report of the design: its nets make a network in which a chain leads from each point to a pad, and the text
 -- tells the two vectors of each axis.

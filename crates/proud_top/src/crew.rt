@@ -1,6 +1,6 @@
 //! The crew that solves the systems.
 
-ghost use Rattle.std.specs.Prelude.{◌≡◌, ◌≤◌, IfOk};
+ghost use Rattle.std.specs.Prelude.{◌≡◌, ◌<◌, ◌≤◌, length, IfOk};
 ghost use Rattle.relax_system.specs.Extremal.{IsLeast, IsGreatest};
 
 use book_outer::Gate;
@@ -29,24 +29,20 @@ impl<'a, R: Threads + Sync, G: Gate> Crew<'a, R, G> {
         Crew { rt, gate, seats }
     }
 
-    /// The least vector of a system. Without a point there is nothing to do.
+    /// The least vector of a system with a point.
     pub(crate) fn least(&self, alloc: Global, system: &System) -> Result<Vec<u64>, Memory>
+        requires { 0 < length system.now }
         ensures { IfOk result (λ v. IsLeast system.now v.items) }
     {
-        if system.points() == 0 {
-            return Ok(Vec::new(alloc));
-        }
         let answer = least(self.rt, alloc, system, self.seats, self.gate)?;
         Ok(Vec::from_slice(alloc, answer.seat.seen())?)
     }
 
-    /// The greatest vector of a system. Without a point there is nothing to do.
+    /// The greatest vector of a system with a point.
     pub(crate) fn greatest(&self, alloc: Global, system: &System) -> Result<Vec<u64>, Memory>
+        requires { 0 < length system.now }
         ensures { IfOk result (λ v. IsGreatest system.now v.items) }
     {
-        if system.points() == 0 {
-            return Ok(Vec::new(alloc));
-        }
         let answer = greatest(self.rt, alloc, system, self.seats, self.gate)?;
         Ok(Vec::from_slice(alloc, answer.seat.seen())?)
     }

@@ -1,6 +1,9 @@
 //! What the laws of the readers, of the join and of the network say together.
 
-ghost use Rattle.std.specs.Prelude.{ℕ, List};
+ghost use Rattle.std.specs.Prelude.{ℕ, ◌<◌, List, length};
+ghost use Rattle.pad_reach.specs.Chain.{HasChain};
+ghost use Rattle.relax_system.specs.System.{IsValid, joints_of};
+ghost use Rattle.relax_system.specs.Extremal.{IsLeast, IsGreatest};
 ghost use Rattle.book_files.specs.Grammar.{HasOneAnswer};
 ghost use Rattle.book_files.specs.AuxRules.{aux_grammar};
 ghost use Rattle.book_files.specs.NodeRules.{nodes_grammar};
@@ -11,11 +14,17 @@ ghost use Rattle.book_files.specs.RowRules.{rows_grammar};
 ghost use Rattle.book_design.specs.Files.{Files};
 ghost use Rattle.book_design.specs.Values.{DesignValue};
 ghost use Rattle.book_design.specs.Answers.{HasOneJoin};
+ghost use Rattle.net_model.specs.Values.{NetworkValue};
 ghost use Rattle.net_model.specs.Answers.{HasOneNetwork};
+ghost use Rattle.core_system.specs.declared.axis.Axis.{Axis};
+ghost use Rattle.core_system.specs.CoreSystem.{system_of};
+ghost use Rattle.proud_top.specs.Report.{Solve};
+ghost use Rattle.proud_top.specs.Stops.{IsSolveOf};
 
 use book_design::one_join;
 use book_files::one_answer;
 use net_model::one_network;
+use relax_system::{enclosure, greatest_vector, least_vector};
 
 /// A text of each kind has one answer, the files together have one, and so have the nets of a design.
 pub(crate) fn laws()
@@ -31,4 +40,17 @@ pub(crate) fn laws()
     one_answer();
     one_join();
     one_network();
+}
+
+/// The two extremal vectors of a network's system, in which each point has a chain, are fixed points and enclose every
+/// exact solution.
+pub(crate) fn solves()
+    ensures { (axis : Axis) (network : NetworkValue) (solve : Solve) → IsValid (system_of axis network)
+        → ((p : ℕ) → p < length (system_of axis network) → HasChain (joints_of (system_of axis network)) p)
+        → IsLeast (system_of axis network) solve.lo → IsGreatest (system_of axis network) solve.hi
+        → IsSolveOf axis network solve }
+{
+    least_vector();
+    greatest_vector();
+    enclosure();
 }

@@ -6,6 +6,7 @@ ghost use Rattle.net_model.specs.Webs.{joints_of};
 ghost use Rattle.proud_top.specs.Stops.{IsSolveOf};
 
 use crate::crew::Crew;
+use crate::laws::solves;
 use book_outer::Gate;
 use book_text::Memory;
 use core_system::{Axis, core_system};
@@ -30,7 +31,7 @@ impl Model for Solution {
 }
 
 impl Solution {
-    /// The least and the greatest vector of the network's system on an axis.
+    /// The least and the greatest vector of the network's system on an axis. Without a point there is nothing to solve.
     pub(crate) fn new<R: Threads + Sync, G: Gate>(
         crew: &Crew<'_, R, G>,
         alloc: Global,
@@ -40,7 +41,14 @@ impl Solution {
         requires { (p : ℕ) → p < length network.now.points → HasChain (joints_of network.now) p }
         ensures { IfOk result (IsSolveOf axis network.now) }
     {
+        solves();
         let system = core_system(alloc, network, axis)?;
+        if system.points() == 0 {
+            return Ok(Solution {
+                lo: Vec::new(alloc),
+                hi: Vec::new(alloc),
+            });
+        }
         let lo = crew.least(alloc, &system)?;
         let hi = crew.greatest(alloc, &system)?;
         Ok(Solution { lo, hi })
