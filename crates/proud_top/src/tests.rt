@@ -50,6 +50,18 @@ fn two_cells() -> Texts<'static> {
     }
 }
 
+/// One cell between three terminals, of which two stand on the left.
+fn three_pads() -> Texts<'static> {
+    Texts {
+        nodes: b"UCLA nodes 1.0\nNumNodes : 4\nNumTerminals : 3\n\
+            a 2 10\nl 0 0 terminal\nr 0 0 terminal\nm 0 0 terminal\n",
+        nets: b"UCLA nets 1.0\nNumNets : 3\nNumPins : 6\n\
+            NetDegree : 2\nl B\na B\nNetDegree : 2\na B\nr B\nNetDegree : 2\nm B\na B\n",
+        pl: b"UCLA pl 1.0\na 0 0 : N\nl 0 5 : N /FIXED\nr 10 5 : N /FIXED\nm 0 5 : N /FIXED\n",
+        ..one_cell()
+    }
+}
+
 /// Two terminals, and nothing between them.
 fn terminals() -> Texts<'static> {
     Texts {
@@ -222,6 +234,11 @@ fn designs_are_placed(rt: HostRuntime) -> Result<(), Fail> {
     let middle = b"a 5000000 5000000 5000000 5000000\n";
     let cases = [
         case_of(one_cell(), Status::Done, middle),
+        case_of(
+            three_pads(),
+            Status::Done,
+            b"a 3333333 3333334 5000000 5000000\n",
+        ),
         case_of(
             two_cells(),
             Status::Done,
