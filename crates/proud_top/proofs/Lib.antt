@@ -5,3 +5,4 @@ mod Chain
 mod Outcomes
 mod Points
 mod Reporting
+mod OneReport

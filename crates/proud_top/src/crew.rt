@@ -25,6 +25,7 @@ impl<'a, R: Threads + Sync, G: Gate> Crew<'a, R, G> {
     pub(crate) fn new(rt: &'a R, gate: &'a G, seats: usize) -> Self
         requires some { 1 ≤ seats }
         requires few { seats ≤ 64 }
+        ensures { result.seats ≡ seats }
     {
         Crew { rt, gate, seats }
     }

@@ -15,6 +15,7 @@ ghost use Rattle.proud_top.specs.declared.status.Refusal.{Refusal};
 ghost use Rattle.proud_top.specs.Lines.{usage_line, cannot_read_line, refusal_line};
 ghost use Rattle.proud_top.specs.Request.{requested};
 ghost use Rattle.proud_top.specs.Accepted.{Accepts};
+ghost use Rattle.proud_top.specs.Stops.{IsReportOf};
 ghost use Rattle.proud_top.specs.Refused.{IsRefused};
 ghost use Rattle.proud_top.specs.Counts.{Counts, IsFaultPlace, IsLastBegun, last_kind};
 ghost use Rattle.proud_top.specs.Outcome.{Outcome, Tells, PutsReport};
@@ -56,6 +57,9 @@ pub fn proud<R: Threads + Sync, F: Folder, S: Sink, G: Gate>(
         (record { begun = F.begun folder.old; missed = F.missed folder.old; faults = F.read_faults folder.old })
         (record { begun = F.begun folder.new; missed = F.missed folder.new; faults = F.read_faults folder.new })) }
     ensures calm_report { result ≡ Status.Done → S.faults report.new ≡ S.faults report.old }
+
+    // The files have one report: no number of seats, no gate and no run changes it.
+    ensures one_report { (files : List FileEntry) (word a b : List ℕ) → IsReportOf files word a → IsReportOf files word b → a ≡ b }
 
     // Usage comes exactly where the words have another form. Nothing is read then.
     ensures usage { result ≡ Status.Usage → requested words.now ≡ None }

@@ -1,10 +1,16 @@
 //! How many seats are asked for, and that they run at the same time.
 
-use super::{Case, USAGE, assert_case, case_of, files_of, terminals, two_cells, words_of};
+use super::{
+    Case, Texts, USAGE, assert_case, case_of, files_of, one_cell, terminals, two_cells, words_of,
+};
 use crate::{FileKind, Status, proud};
 use book_outer::{Calls, Gate, MemFolder, MemSink};
-use std::sync::atomic::{AtomicBool, Ordering};
+use book_text::Memory;
+use std::alloc::Global;
+use std::process::Abort;
+use std::sync::atomic::{AtomicBool, AtomicU64, Ordering};
 use std::test::Fail;
+use std::thread::Threads;
 
 #[test]
 fn seats_may_be_asked_for(rt: HostRuntime) -> Result<(), Fail> {
@@ -108,5 +114,87 @@ fn proud_meets(rt: HostRuntime) -> Result<(), Fail> {
     assert_eq!(rt; status, Status::Done);
     assert!(rt; gate.first.met.load(Ordering::SeqCst));
     assert!(rt; gate.second.met.load(Ordering::SeqCst));
+    Ok(())
+}
+
+/// Four cells in a chain between two terminals.
+fn four_cells() -> Texts<'static> {
+    Texts {
+        nodes: b"UCLA nodes 1.0\nNumNodes : 6\nNumTerminals : 2\n\
+            a 2 10\nb 2 10\nc 2 10\nd 2 10\nl 0 0 terminal\nr 0 0 terminal\n",
+        nets: b"UCLA nets 1.0\nNumNets : 5\nNumPins : 10\n\
+            NetDegree : 2\nl B\na B\nNetDegree : 2\na B\nb B\nNetDegree : 2\nb B\nc B\n\
+            NetDegree : 2\nc B\nd B\nNetDegree : 2\nd B\nr B\n",
+        pl: b"UCLA pl 1.0\nl 0 5 : N /FIXED\nr 10 5 : N /FIXED\n",
+        ..one_cell()
+    }
+}
+
+/// Adds 100 and the seat's number to a word of the point at each pass.
+#[derive(Drop)]
+struct Watch {
+    words: Vec<AtomicU64>,
+}
+
+impl Watch {
+    fn over(alloc: Global, points: usize) -> Result<Watch, Memory> {
+        let mut words = Vec::new(alloc);
+        for _ in 0..points {
+            words.push(AtomicU64::new(0))?;
+        }
+        Ok(Watch { words })
+    }
+
+    /// In each of four solves each point has been passed once, by its owner.
+    fn shows(&self, rt: &impl Abort, owners: &[u8]) {
+        assert!(rt; self.words.len() == owners.len());
+        for i in 0..owners.len() {
+            let word = self.words[i].load(Ordering::SeqCst);
+            assert_eq!(rt; word, 400 + 4 * u64::from(owners[i]));
+        }
+    }
+}
+
+impl Gate for Watch {
+    fn pass(&self, seat: usize, point: usize) {
+        if point < self.words.len() && seat < 64 {
+            self.words[point].fetch_add(100 + seat as u64, Ordering::SeqCst);
+        }
+    }
+}
+
+/// The seats that the words ask for pass the four cells, each its own range.
+fn deals<R: Threads + Abort + Sync>(
+    rt: &R,
+    alloc: Global,
+    words: &[&str],
+    owners: &[u8],
+) -> Result<(), Memory> {
+    let mut folder = MemFolder::new(files_of(alloc, four_cells())?, Calls::new(alloc));
+    let mut report = MemSink::new(alloc, Calls::new(alloc));
+    let gate = Watch::over(alloc, 4)?;
+    let words = words_of(alloc, words)?;
+    let status = proud(rt, alloc, &words, &mut folder, &mut report, &gate);
+    assert_eq!(rt; status, Status::Done);
+    gate.shows(rt, owners);
+    Ok(())
+}
+
+#[test]
+fn as_many_seats_work_as_are_asked_for(rt: HostRuntime) -> Result<(), Fail> {
+    let alloc = rt.alloc();
+    deals(&rt, alloc, &["proud", "a.aux"], &[0, 1, 2, 3])?;
+    deals(
+        &rt,
+        alloc,
+        &["proud", "--seats", "1", "a.aux"],
+        &[0, 0, 0, 0],
+    )?;
+    deals(
+        &rt,
+        alloc,
+        &["proud", "--seats", "3", "a.aux"],
+        &[0, 1, 2, 2],
+    )?;
     Ok(())
 }
