@@ -1,4 +1,4 @@
-//! The system of a network on one axis, before the chip is cut: all points share the core.
+//! The system of a network on one axis, in which all points share the core.
 //!
 //! It stands on the network, and before the crew that solves the system. The fixed pins of a point become constants of its
 //! equation, clamped to the core; that they are clamped is this project's own. What comes in is a network in which each

@@ -27,8 +27,8 @@ pub record IsFaultAt (files : List FileEntry) (word : List ℕ) (kind : FileKind
 abbrev pub IsFaultPlace : List FileEntry → List (List ℕ) → FileKind → Counts → Counts → Type 0
 IsFaultPlace files words kind before now = (word : List ℕ) × (requested words ≡ Some word) × IsFaultAt files word kind before now
 
--- The file of the kind was the last to be begun: that file was to be read, as many files were begun as its place says, unless the
--- count stands at the greatest u64, and none was absent.
+-- As many files were begun as stand up to the file of the kind, which was to be read, unless the count stands at the greatest
+-- u64; and none of them was absent.
 pub record IsLast (files : List FileEntry) (word : List ℕ) (kind : FileKind) (before now : Counts) : Type 0 where
   pub name : List ℕ
   pub place : ℕ

@@ -1,4 +1,4 @@
--- When a design is refused: the first cause, in the order of the files, then of the files together, then of its nets.
+-- When a design is refused: the first cause, in the order of the files, then of the files together, of its nets, and of its points.
 use Rattle.std.specs.Prelude.{◌≡◌, ℕ, ◌≤◌, List, length, slice_get, Option, Some, None, IfSome}
 use Rattle.book_outer.specs.Files.{FileEntry, content}
 use Rattle.book_files.specs.declared.records.FileKind.{FileKind}

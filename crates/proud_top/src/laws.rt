@@ -1,4 +1,4 @@
-//! What the laws of the readers, of the join and of the network say together.
+//! What the laws of the readers, of the join, of the network and of the extremal vectors say together.
 
 ghost use Rattle.std.specs.Prelude.{ℕ, ◌<◌, List, length};
 ghost use Rattle.pad_reach.specs.Chain.{HasChain};

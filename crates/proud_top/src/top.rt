@@ -36,9 +36,9 @@ use std::thread::Threads;
 /// Places the design that the words name, and reports for each cell its lower and its upper coordinate on each axis.
 ///
 /// The words are the program's name, `--seats N` where a number of seats is asked for, and the name of the design's aux
-/// file. The report gets one line per cell, `NAME XLO XHI YLO YHI` in millionths of a Bookshelf unit, or one line that says
-/// what is wrong. It doesn't depend on the number of seats, which are 4 where none is asked for. The gate is told of the
-/// first sweep of each crew.
+/// file. The report gets one line per cell, `NAME XLO XHI YLO YHI` in millionths of a Bookshelf unit, or, where the words, a
+/// file or the design is at fault, one line that says so. It doesn't depend on the number of seats, which are 4 where none
+/// is asked for. The gate is told of the first sweep of each crew.
 pub fn proud<R: Threads + Sync, F: Folder, S: Sink, G: Gate>(
     rt: &R,
     alloc: Global,
@@ -48,7 +48,8 @@ pub fn proud<R: Threads + Sync, F: Folder, S: Sink, G: Gate>(
     gate: &G,
 ) -> Status
     // Done: the files are accepted and make a design without a fault of its nets, in which each point reaches a pad, and the
-    // report got exactly a line per point with its two coordinates on each axis.
+    // report got exactly a line per point with its two coordinates on each axis. These are fixed points of the rounded means,
+    // and every exact solution lies between them.
     ensures done { result ≡ Status.Done → IfSome (F.files folder.old) (λ files.
         GotReport files words.now (S.written report.old) (S.written report.new)) }
     ensures calm_reads { result ≡ Status.Done → F.read_faults folder.new ≡ F.read_faults folder.old }
