@@ -197,31 +197,25 @@ fn solve_axis(network: &Network, design: &Design, axis: usize, way: &Way) -> [Ve
     let heaviest = network.totals.iter().copied().max().unwrap_or(0);
     let anchored = &network.anchored[axis];
     if u128::from(heaviest) * (u128::from(top) + 1) <= u128::from(u64::MAX) {
-        let anchored = anchored.iter().map(|sum| *sum as u64).collect();
-        solve(
-            &System {
-                network,
-                anchored,
-                top,
-            },
-            axis,
-            way,
-        )
+        let anchored: Vec<u64> = anchored.iter().map(|sum| *sum as u64).collect();
+        solve(network, anchored, top, axis, way)
     } else {
-        let anchored = anchored.clone();
-        solve(
-            &System {
-                network,
-                anchored,
-                top,
-            },
-            axis,
-            way,
-        )
+        solve(network, anchored.clone(), top, axis, way)
     }
 }
 
-fn solve<S: Sum>(system: &System<'_, S>, axis: usize, way: &Way) -> [Vec<u64>; 2] {
+fn solve<S: Sum>(
+    network: &Network,
+    anchored: Vec<S>,
+    top: u64,
+    axis: usize,
+    way: &Way,
+) -> [Vec<u64>; 2] {
+    let system = System {
+        network,
+        anchored,
+        top,
+    };
     let tell = |end: &str, work: String| {
         if way.tell {
             eprintln!("{} {end}: {work}", ["x", "y"][axis]);
