@@ -58,16 +58,16 @@ fn room(alloc: Global, count: usize) -> Result<Vec<u8>, AllocError>
 /// Whatever it answers, the folder's files are unchanged. A read fault is answered only where the folder counted one, and
 /// `TooLong` where more bytes than that were taken.
 pub fn load<F: Folder>(alloc: Global, folder: &mut F, name: &str) -> Result<Vec<u8>, LoadError>
-    ensures loaded { IfOk result (λ bytes. IfSome (F.files folder.old) (λ files. content files name.now ≡ Some bytes.items)) }
+    ensures loaded { IfOk result (λ bytes. IfSome ((F.state folder.old).files) (λ files. content files name.now ≡ Some bytes.items)) }
     ensures within { IfOk result (λ bytes. vec_len bytes ≤ most_bytes) }
-    ensures too_long { result ≡ Err LoadError.TooLong → IfSome (F.files folder.old) (λ files. HasLongText files name.now) }
-    ensures taken { HasTaken (λ bytes. vec_len bytes) (F.files folder.old) name.now result (F.reading folder.new) }
-    ensures cause { HasReadCause (F.read_faults folder.old) (F.read_faults folder.new) result }
-    ensures begun { F.begun folder.new ≡ one_more (F.begun folder.old) }
-    ensures missed { F.missed folder.new ≡ missed_after (F.files folder.old) name.now (F.missed folder.old) }
-    ensures files { F.files folder.new ≡ F.files folder.old }
-    ensures writing { F.writing folder.new ≡ F.writing folder.old }
-    ensures write_faults { F.write_faults folder.new ≡ F.write_faults folder.old }
+    ensures too_long { result ≡ Err LoadError.TooLong → IfSome ((F.state folder.old).files) (λ files. HasLongText files name.now) }
+    ensures taken { HasTaken (λ bytes. vec_len bytes) ((F.state folder.old).files) name.now result ((F.state folder.new).reading) }
+    ensures cause { HasReadCause ((F.state folder.old).read_faults) ((F.state folder.new).read_faults) result }
+    ensures begun { (F.state folder.new).begun ≡ one_more ((F.state folder.old).begun) }
+    ensures missed { (F.state folder.new).missed ≡ missed_after ((F.state folder.old).files) name.now ((F.state folder.old).missed) }
+    ensures files { (F.state folder.new).files ≡ (F.state folder.old).files }
+    ensures writing { (F.state folder.new).writing ≡ (F.state folder.old).writing }
+    ensures write_faults { (F.state folder.new).write_faults ≡ (F.state folder.old).write_faults }
 {
     folder.begin(name)?;
     let mut piece = room(alloc, PIECE_BYTES)?;

@@ -48,19 +48,7 @@ impl CalmFolder {
 }
 
 impl Folder for CalmFolder {
-    ghost files = { λ c. Some c.files };
-
-    ghost reading = { λ c. c.reading };
-
-    ghost writing = { λ c. c.writing };
-
-    ghost begun = { λ c. c.begun };
-
-    ghost missed = { λ c. c.missed };
-
-    ghost read_faults = { λ c. c.missed };
-
-    ghost write_faults = { λ _. 0 };
+    ghost state = { λ c. record { files = Some c.files; reading = c.reading; writing = c.writing; begun = c.begun; missed = c.missed; read_faults = c.missed; write_faults = 0 } };
 
     ghost untold = { λ folder told. Prim.cc };
 
@@ -143,9 +131,7 @@ impl CalmSink {
 }
 
 impl Sink for CalmSink {
-    ghost written = { λ c. Some c };
-
-    ghost faults = { λ _. 0 };
+    ghost state = { λ c. record { written = Some c; faults = 0 } };
 
     fn put(&mut self, bytes: &[u8]) -> Result<(), Trouble>
         ensures answer { IsOkUnless result Trouble.Memory }

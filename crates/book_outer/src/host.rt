@@ -28,11 +28,11 @@ pub struct HostFolder<R: Files> {
 impl<R: Files + Drop> HostFolder<R> {
     /// No file is open. It takes no memory.
     pub fn new(rt: R) -> HostFolder<R>
-        ensures reading { ⟦<HostFolder<R> as Folder>⟧.reading result ≡ None }
-        ensures writing { ⟦<HostFolder<R> as Folder>⟧.writing result ≡ None }
-        ensures begun { ⟦<HostFolder<R> as Folder>⟧.begun result ≡ 0 }
-        ensures read_faults { ⟦<HostFolder<R> as Folder>⟧.read_faults result ≡ 0 }
-        ensures write_faults { ⟦<HostFolder<R> as Folder>⟧.write_faults result ≡ 0 }
+        ensures reading { (⟦<HostFolder<R> as Folder>⟧.state result).reading ≡ None }
+        ensures writing { (⟦<HostFolder<R> as Folder>⟧.state result).writing ≡ None }
+        ensures begun { (⟦<HostFolder<R> as Folder>⟧.state result).begun ≡ 0 }
+        ensures read_faults { (⟦<HostFolder<R> as Folder>⟧.state result).read_faults ≡ 0 }
+        ensures write_faults { (⟦<HostFolder<R> as Folder>⟧.state result).write_faults ≡ 0 }
     {
         HostFolder {
             rt,
@@ -46,19 +46,7 @@ impl<R: Files + Drop> HostFolder<R> {
 }
 
 impl<R: Files + Drop> Folder for HostFolder<R> {
-    ghost files = { λ _. None };
-
-    ghost reading = { λ f. option_map (λ _. record { name = []; place = 0 }) f.reading };
-
-    ghost writing = { λ f. option_map (λ _. []) f.writing };
-
-    ghost begun = { λ f. f.begun };
-
-    ghost missed = { λ _. 0 };
-
-    ghost read_faults = { λ f. f.read_faults };
-
-    ghost write_faults = { λ f. f.write_faults };
+    ghost state = { λ f. record { files = None; reading = option_map (λ _. record { name = []; place = 0 }) f.reading; writing = option_map (λ _. []) f.writing; begun = f.begun; missed = 0; read_faults = f.read_faults; write_faults = f.write_faults } };
 
     ghost use Rattle.std.specs.Prelude.{refl};
 
@@ -104,16 +92,14 @@ pub struct StdSink<R: Print> {
 impl<R: Print + Drop> StdSink<R> {
     /// It takes no memory.
     pub fn new(rt: R) -> StdSink<R>
-        ensures { ⟦<StdSink<R> as Sink>⟧.faults result ≡ 0 }
+        ensures { (⟦<StdSink<R> as Sink>⟧.state result).faults ≡ 0 }
     {
         StdSink { rt, faults: 0 }
     }
 }
 
 impl<R: Print + Drop> Sink for StdSink<R> {
-    ghost written = { λ _. None };
-
-    ghost faults = { λ s. s.faults };
+    ghost state = { λ s. record { written = None; faults = s.faults } };
 
     fn put(&mut self, bytes: &[u8]) -> Result<(), Trouble> {
         let mut out = io::writer(&self.rt);

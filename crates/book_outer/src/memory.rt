@@ -78,19 +78,7 @@ impl MemFolder {
 }
 
 impl Folder for MemFolder {
-    ghost files = { λ m. Some m.files };
-
-    ghost reading = { λ m. m.reading };
-
-    ghost writing = { λ m. m.writing };
-
-    ghost begun = { λ m. m.begun };
-
-    ghost missed = { λ m. m.missed };
-
-    ghost read_faults = { λ m. m.read_faults };
-
-    ghost write_faults = { λ m. m.write_faults };
+    ghost state = { λ m. record { files = Some m.files; reading = m.reading; writing = m.writing; begun = m.begun; missed = m.missed; read_faults = m.read_faults; write_faults = m.write_faults } };
 
     ghost untold = { λ folder told. Prim.cc };
 
@@ -199,9 +187,7 @@ impl MemSink {
 }
 
 impl Sink for MemSink {
-    ghost written = { λ m. Some m.written };
-
-    ghost faults = { λ m. m.faults };
+    ghost state = { λ m. record { written = Some m.written; faults = m.faults } };
 
     fn put(&mut self, bytes: &[u8]) -> Result<(), Trouble>
         ensures answer { MatchBool (is_to_fail self.old.failing self.old.calls) (result ≡ Err Trouble.Failed) (IsOkUnless result Trouble.Memory) }

@@ -1,20 +1,18 @@
-ghost use Rattle.std.specs.Prelude.{◌≡◌, ℕ, List, Option, None};
+ghost use Rattle.std.specs.Prelude.{◌≡◌, None};
 ghost use Rattle.book_outer.specs.Cause.{HasCause};
 ghost use Rattle.book_outer.specs.Sink.{Gets};
+ghost use Rattle.book_outer.specs.State.{SinkState};
 
 use crate::trouble::Trouble;
 
 /// Where a report goes.
 pub trait Sink {
-    /// What was written, where the sink tells it.
-    ghost written: { Self → Option (List ℕ) };
-
-    /// How often `put` failed.
-    ghost faults: { Self → ℕ };
+    /// What is known of the sink.
+    ghost state: { Self → SinkState };
 
     /// Puts bytes behind what was written.
     fn put(&mut self, bytes: &[u8]) -> Result<(), Trouble>
-        ensures gets { Gets (written self.old) (written self.new) bytes.now result }
-        ensures untold { written self.old ≡ None → written self.new ≡ None }
-        ensures cause { HasCause (faults self.old) (faults self.new) result };
+        ensures gets { Gets ((state self.old).written) ((state self.new).written) bytes.now result }
+        ensures untold { (state self.old).written ≡ None → (state self.new).written ≡ None }
+        ensures cause { HasCause ((state self.old).faults) ((state self.new).faults) result };
 }

@@ -2,7 +2,9 @@ mod Folders
 mod Once
 mod Clash
 mod Chain
-mod Outcomes
 mod Points
 mod Reporting
 mod OneReport
+mod FromSays
+mod OneEnd
+mod Saying

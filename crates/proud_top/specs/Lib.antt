@@ -5,8 +5,10 @@ pub mod Refused
 pub mod Lines
 pub mod Report
 pub mod Counts
-pub mod Answers
 pub mod Codes
 pub mod Stops
 pub mod Steps
-pub mod Outcome
+pub mod Flow
+pub mod Statuses
+pub mod Halts
+pub mod Inputs

@@ -9,8 +9,11 @@
 #![tactic(auto)]
 
 mod crew;
+mod halt;
+mod inputs;
 mod laws;
 mod lines;
+mod place;
 mod reading;
 mod report;
 mod request;

@@ -26,11 +26,11 @@ pub(crate) fn placed<R: Threads + Sync, F: Folder, G: Gate>(
     folder: &mut F,
     word: &str,
 ) -> Result<Vec<u8>, Stop>
-    ensures places { Places (F.files folder.old) word.now
-        (record { begun = F.begun folder.old; missed = F.missed folder.old; faults = F.read_faults folder.old })
-        (record { begun = F.begun folder.new; missed = F.missed folder.new; faults = F.read_faults folder.new }) result }
-    ensures files { F.files folder.new ≡ F.files folder.old }
-    ensures write_faults { F.write_faults folder.new ≡ F.write_faults folder.old }
+    ensures places { Places (F.state folder.old).files word.now
+        (record { begun = (F.state folder.old).begun; missed = (F.state folder.old).missed; faults = (F.state folder.old).read_faults })
+        (record { begun = (F.state folder.new).begun; missed = (F.state folder.new).missed; faults = (F.state folder.new).read_faults }) result }
+    ensures files { (F.state folder.new).files ≡ (F.state folder.old).files }
+    ensures write_faults { (F.state folder.new).write_faults ≡ (F.state folder.old).write_faults }
 {
     let text = load_as(alloc, folder, FileKind::Aux, word)?;
     let names = told(alloc, FileKind::Aux, read_aux(alloc, &text))?;
@@ -78,11 +78,11 @@ fn load_weights<F: Folder>(
     design: &str,
     name: Option<&str>,
 ) -> Result<Option<Vec<u8>>, Stop>
-    ensures answer { LoadsWeights (F.files folder.old) design.now (option_map (λ n. n.now) name.entry)
-        (record { begun = F.begun folder.old; missed = F.missed folder.old; faults = F.read_faults folder.old })
-        (record { begun = F.begun folder.new; missed = F.missed folder.new; faults = F.read_faults folder.new }) result }
-    ensures files { F.files folder.new ≡ F.files folder.old }
-    ensures write_faults { F.write_faults folder.new ≡ F.write_faults folder.old }
+    ensures answer { LoadsWeights (F.state folder.old).files design.now (option_map (λ n. n.now) name.entry)
+        (record { begun = (F.state folder.old).begun; missed = (F.state folder.old).missed; faults = (F.state folder.old).read_faults })
+        (record { begun = (F.state folder.new).begun; missed = (F.state folder.new).missed; faults = (F.state folder.new).read_faults }) result }
+    ensures files { (F.state folder.new).files ≡ (F.state folder.old).files }
+    ensures write_faults { (F.state folder.new).write_faults ≡ (F.state folder.old).write_faults }
 {
     match name {
         Some(name) => Ok(Some(load_beside(alloc, folder, FileKind::Wts, design, name)?)),
@@ -98,11 +98,11 @@ fn load_beside<F: Folder>(
     design: &str,
     name: &str,
 ) -> Result<Vec<u8>, Stop>
-    ensures answer { Loads kind (F.files folder.old) (beside design.now name.now)
-        (record { begun = F.begun folder.old; missed = F.missed folder.old; faults = F.read_faults folder.old })
-        (record { begun = F.begun folder.new; missed = F.missed folder.new; faults = F.read_faults folder.new }) result }
-    ensures files { F.files folder.new ≡ F.files folder.old }
-    ensures write_faults { F.write_faults folder.new ≡ F.write_faults folder.old }
+    ensures answer { Loads kind (F.state folder.old).files (beside design.now name.now)
+        (record { begun = (F.state folder.old).begun; missed = (F.state folder.old).missed; faults = (F.state folder.old).read_faults })
+        (record { begun = (F.state folder.new).begun; missed = (F.state folder.new).missed; faults = (F.state folder.new).read_faults }) result }
+    ensures files { (F.state folder.new).files ≡ (F.state folder.old).files }
+    ensures write_faults { (F.state folder.new).write_faults ≡ (F.state folder.old).write_faults }
 {
     let path = beside(alloc, design, name)?;
     load_as(alloc, folder, kind, path.as_str())
@@ -115,11 +115,11 @@ fn load_as<F: Folder>(
     kind: FileKind,
     name: &str,
 ) -> Result<Vec<u8>, Stop>
-    ensures answer { Loads kind (F.files folder.old) name.now
-        (record { begun = F.begun folder.old; missed = F.missed folder.old; faults = F.read_faults folder.old })
-        (record { begun = F.begun folder.new; missed = F.missed folder.new; faults = F.read_faults folder.new }) result }
-    ensures files { F.files folder.new ≡ F.files folder.old }
-    ensures write_faults { F.write_faults folder.new ≡ F.write_faults folder.old }
+    ensures answer { Loads kind (F.state folder.old).files name.now
+        (record { begun = (F.state folder.old).begun; missed = (F.state folder.old).missed; faults = (F.state folder.old).read_faults })
+        (record { begun = (F.state folder.new).begun; missed = (F.state folder.new).missed; faults = (F.state folder.new).read_faults }) result }
+    ensures files { (F.state folder.new).files ≡ (F.state folder.old).files }
+    ensures write_faults { (F.state folder.new).write_faults ≡ (F.state folder.old).write_faults }
 {
     match load(alloc, folder, name) {
         Ok(bytes) => Ok(bytes),

@@ -10,11 +10,13 @@
 
 mod bench;
 mod ceil;
+mod crew;
 mod floor;
 mod range;
 
 pub use ceil::{CeilAnswer, greatest};
 pub use floor::{FloorAnswer, least};
+pub use range::MOST_SEATS;
 
 #[cfg(test)]
 mod tests;

@@ -3,10 +3,13 @@
 ghost use Rattle.std.specs.Prelude.{◌≡◌, ◌+◌, ◌*◌, ◌/◌, ◌<◌, ◌≤◌};
 ghost use Rattle.relax_crew.specs.Crew.{first_point};
 
+/// How many seats a crew may have.
+pub const MOST_SEATS: usize = 64;
+
 /// The first point of seat `k` of `seats`, and the one past its last, where `points` points are dealt out.
 pub(crate) fn range_of(k: usize, seats: usize, points: usize) -> (usize, usize)
     requires seat { k < seats }
-    requires seats { seats ≤ 64 }
+    requires seats { seats ≤ MOST_SEATS }
     requires points { points ≤ 2097152 }
     ensures from { result.0 ≡ first_point k seats points }
     ensures to { result.1 ≡ first_point (k + 1) seats points }

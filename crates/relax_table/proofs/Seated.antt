@@ -6,11 +6,11 @@ use Rattle.atomic_table.specs.Seated.{TableId}
 use Rattle.relax_system.specs.declared.side.Side.{Side}
 use Rattle.relax_system.specs.declared.points.Point.{Point}
 use Rattle.relax_system.specs.System.{point_at}
-use Rattle.relax_system.specs.Sides.{Before, mean_of}
+use Rattle.relax_system.specs.Sides.{Before, IsExtremal, mean_of}
 use Rattle.relax_system.proofs.SideMeans.{Before_trans}
 use Rattle.relax_system.proofs.Extremes.{extremal_there}
 use Rattle.relax_table.specs.declared.rule.View.{View}
-use Rattle.relax_table.specs.Ways.{is_past, one_if, apart, distance, IsBound}
+use Rattle.relax_table.specs.Ways.{is_past, one_if, apart, distance, IsBound, IsQuietIn}
 use Rattle.relax_table.specs.Step.{word_after}
 use Rattle.relax_table.specs.Step.Kind.{Load, Renew}
 use Rattle.relax_table.specs.Seats.{SeatState, IsSound, Advances}
@@ -148,3 +148,11 @@ advances_joined side id id' name v w j l seen seen' moves moves' h k e learned s
         sound = learned.sound name;
       },
     )
+
+-- a seat that is quiet at all points has seen the extremal vector
+pub settled_extremal : (side : Side) (points : List Point) (s : SeatState) (n : ℕ) → n ≡ length points → s.system ≡ points → IsSound side s → IsQuietIn side points 0 n s.seen → IsExtremal side points s.seen
+settled_extremal side points s n all same h quiet = record {
+  in_boxes = rw (← same) h.in_boxes;
+  quiet = λ i there. quiet i (omega arith) (omega (arith, all, there));
+  first = λ u boxes calm. h.first u (rw same (record { in_boxes = boxes; quiet = calm }));
+}

@@ -24,6 +24,7 @@ pub use ceil::{CeilSeat, CeilTable, Lowered};
 pub use direction::{Direction, Down, Up};
 pub use floor::{FloorSeat, FloorTable, Raised};
 pub use laws::{ends_may_start, moves_are_few, quiet_is_extremal};
+pub use relax::Relaxed;
 pub use seat::{Renewal, SideSeat};
 pub use steps::Steps;
 pub use table::SideTable;

@@ -21,7 +21,7 @@ use std::sync::ledger::Ledger;
 
 /// What a relaxation did: its fetch, and whether it moved an entry of what the seat has seen.
 #[derive(Clone, Copy)]
-pub(crate) struct Relaxed {
+pub struct Relaxed {
     pub fetch: Renewal,
     pub moved: bool,
 }
@@ -104,7 +104,7 @@ impl<'a, D: Direction> SideTable<'a, D> {
 
     /// A look at each neighbour of a point, and then a renewal of the point.
     #[inline(always)]
-    pub(crate) fn relax_side<L: Ledger>(
+    pub fn relax_side<L: Ledger>(
         &self,
         seat: &mut SideSeat<D>,
         i: usize,

@@ -1,6 +1,7 @@
 //! Sweeps over a range of points, until what the seat has seen is quiet there.
 
 ghost use Rattle.std.specs.Prelude.{◌≡◌, ℕ, ◌+◌, ◌*◌, ◌<◌, ◌≤◌, List, length, MatchBool};
+ghost use Rattle.relax_system.specs.Sides.{IsExtremal};
 ghost use Rattle.relax_table.specs.Seats.{IsSeatOf, Advances, sweep_steps};
 ghost use Rattle.relax_table.specs.Ways.{distance, IsBound, IsQuietIn};
 
@@ -13,7 +14,7 @@ use std::sync::ledger::Ledger;
 
 impl<'a, D: Direction> SideTable<'a, D> {
     /// Relaxes the points of a range until what the seat has seen is quiet there.
-    pub(crate) fn settle_side<L: Ledger>(
+    pub fn settle_side<L: Ledger>(
         &self,
         seat: &mut SideSeat<D>,
         from: usize,
@@ -31,6 +32,17 @@ impl<'a, D: Direction> SideTable<'a, D> {
     {
         seat.know();
         'sweeps: while self.sweep(seat, from, to, steps) {}
+    }
+
+    /// Relaxes all points until the seat has seen the side's extremal vector, whatever other seats do.
+    #[tactic(auto, using(crate::proofs::Seated::settled_extremal))]
+    pub fn settle_all<L: Ledger>(&self, seat: &mut SideSeat<D>, steps: &mut Steps<L>)
+        requires { IsSeatOf self.now seat.old }
+        ensures own { IsSeatOf self.now seat.new }
+        ensures advances { Advances D.side seat.old seat.new }
+        ensures extremal { IsExtremal D.side self.now.system seat.new.seen }
+    {
+        self.settle_side(seat, 0, self.system.points(), steps);
     }
 
     /// Relaxes each point of a range once, in ascending order. Whether an entry of what the seat has seen moved.

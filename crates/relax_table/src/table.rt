@@ -39,8 +39,8 @@ impl<'a, D: Direction> Model for SideTable<'a, D> {
 }
 
 impl<'a, D: Direction> SideTable<'a, D> {
-    /// A table whose words are the start's entries, and its first seat.
-    pub(crate) fn over(
+    /// A table whose words are the start's entries, and its first seat. Only want of memory is refused.
+    pub fn over(
         alloc: Global,
         system: &'a System,
         start: &[u64],
@@ -71,7 +71,7 @@ impl<'a, D: Direction> SideTable<'a, D> {
     }
 
     /// A second seat, which has seen what this one has. On want of memory this one is as before.
-    pub(crate) fn split_side(&self, seat: &mut SideSeat<D>) -> Result<SideSeat<D>, Memory>
+    pub fn split_side(&self, seat: &mut SideSeat<D>) -> Result<SideSeat<D>, Memory>
         requires { IsSeatOf self.now seat.old }
         ensures same { seat.new ≡ seat.old }
         ensures own { IfOk result (IsSeatOf self.now) }
@@ -89,7 +89,7 @@ impl<'a, D: Direction> SideTable<'a, D> {
     }
 
     /// One seat of two. It has seen the further of both entries at each point, and its counts are the sums.
-    pub(crate) fn join_sides(&self, seat: SideSeat<D>, other: SideSeat<D>) -> SideSeat<D>
+    pub fn join_sides(&self, seat: SideSeat<D>, other: SideSeat<D>) -> SideSeat<D>
         requires own { IsSeatOf self.now seat }
         requires other { IsSeatOf self.now other }
         ensures own { IsSeatOf self.now result }

@@ -7,7 +7,7 @@ use Rattle.book_files.proofs.loading.load.Goals as goal
 pub pieces-init : goal.pieces-init
 pieces-init g c =
     record {
-      front = rw (c.new-bytes.ensures.items, c.begin.ensures.files) (IsFront-begin (g.F.Folder.files c.args.folder.now) c.args.name.now _ c.in_ok-begin.ensures.begins);
+      front = rw (c.new-bytes.ensures.items, c.begin.ensures.files) (IsFront-begin ((g.F.Folder.state c.args.folder.now).files) c.args.name.now _ c.in_ok-begin.ensures.begins);
       within = omega (arith, c.new-bytes.ensures.len);
       room = omega (arith, c.in_ok-piece.ensures);
       files = c.begin.ensures.files;
@@ -28,7 +28,7 @@ pub pieces-preserved : goal.pieces-preserved
 pieces-preserved g c =
     let lent = ap (λ (piece : List ℕ). take c.in_ok-count.count piece) c.deref.ensures.value ∙ take-lent c.in_ok-count.count c.pieces.piece.len c.read.new.buf _ (omega (arith, c.deref_mut.ensures.len, c.read.auto.buf)) (omega (arith, c.in_ok-count.ensures.reads.0, c.deref_mut.ensures.len)) in
     record {
-      front = rw (c.in_ok-extend_from_slice.ensures.items, lent, c.read.ensures.files) (IsFront-read (g.F.Folder.files c.pieces.folder) _ _ _ _ _ _ _ c.pieces.invariant.front c.in_ok-count.ensures.reads);
+      front = rw (c.in_ok-extend_from_slice.ensures.items, lent, c.read.ensures.files) (IsFront-read ((g.F.Folder.state c.pieces.folder).files) _ _ _ _ _ _ _ c.pieces.invariant.front c.in_ok-count.ensures.reads);
       within = omega arith;
       room = c.pieces.invariant.room;
       files = c.read.ensures.files ∙ c.pieces.invariant.files;
@@ -43,9 +43,9 @@ pub read-requires-clause-room : goal.read-requires-clause-room
 read-requires-clause-room g c = omega (arith, c.deref_mut.ensures.len)
 
 pub read-requires-clause-begun : goal.read-requires-clause-begun
-read-requires-clause-begun g c = IsSome-front (g.F.Folder.files c.pieces.folder) _ _ _ c.pieces.invariant.front
+read-requires-clause-begun g c = IsSome-front ((g.F.Folder.state c.pieces.folder).files) _ _ _ c.pieces.invariant.front
 
 pub returns-then-count-eq0-clause-loaded : goal.returns-then-count-eq0-clause-loaded
 returns-then-count-eq0-clause-loaded g c =
-    let end = content-end (g.F.Folder.files c.pieces.folder) _ _ c.args.name.now _ _ _ c.pieces.invariant.front (rw c.if-count-eq0.true at c.in_ok-count.ensures.reads) in
+    let end = content-end ((g.F.Folder.state c.pieces.folder).files) _ _ c.args.name.now _ _ _ c.pieces.invariant.front (rw c.if-count-eq0.true at c.in_ok-count.ensures.reads) in
     rw c.pieces.invariant.files at end

@@ -7,15 +7,15 @@ use Rattle.book_files.proofs.loading.load.Given as goal
 
 abbrev pub invariant-pieces : goal.invariant-pieces
 invariant-pieces g l = record {
-  front : IsFront (g.F.Folder.files l.folder) (g.F.Folder.reading l.folder) l.name l.bytes.items;
+  front : IsFront ((g.F.Folder.state l.folder).files) ((g.F.Folder.state l.folder).reading) l.name l.bytes.items;
   within : vec_len l.bytes ≤ most_bytes;
   room : 0 < vec_len l.piece;
-  files : g.F.Folder.files l.folder ≡ g.F.Folder.files l.fn.folder;
-  writing : g.F.Folder.writing l.folder ≡ g.F.Folder.writing l.fn.folder;
-  missed : g.F.Folder.missed l.folder ≡ missed_after (g.F.Folder.files l.fn.folder) l.name (g.F.Folder.missed l.fn.folder);
-  begun : g.F.Folder.begun l.folder ≡ one_more (g.F.Folder.begun l.fn.folder);
-  read_faults : g.F.Folder.read_faults l.folder ≡ g.F.Folder.read_faults l.fn.folder;
-  write_faults : g.F.Folder.write_faults l.folder ≡ g.F.Folder.write_faults l.fn.folder;
+  files : (g.F.Folder.state l.folder).files ≡ (g.F.Folder.state l.fn.folder).files;
+  writing : (g.F.Folder.state l.folder).writing ≡ (g.F.Folder.state l.fn.folder).writing;
+  missed : (g.F.Folder.state l.folder).missed ≡ missed_after ((g.F.Folder.state l.fn.folder).files) l.name ((g.F.Folder.state l.fn.folder).missed);
+  begun : (g.F.Folder.state l.folder).begun ≡ one_more ((g.F.Folder.state l.fn.folder).begun);
+  read_faults : (g.F.Folder.state l.folder).read_faults ≡ (g.F.Folder.state l.fn.folder).read_faults;
+  write_faults : (g.F.Folder.state l.folder).write_faults ≡ (g.F.Folder.state l.fn.folder).write_faults;
 }
 
 abbrev pub decreases-pieces : goal.decreases-pieces

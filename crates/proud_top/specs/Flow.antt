@@ -1,0 +1,85 @@
+-- The flow as a list of steps: each goes on with what it makes, or stops at a refusal.
+use Rattle.std.specs.Prelude.{◌≡◌, ◌⊎◌, ℕ, ◌<◌, List, length, Option, Some, None, Result, Ok, Err}
+use Rattle.book_outer.specs.Files.{FileEntry}
+use Rattle.book_files.specs.Entries.{AuxEntry}
+use Rattle.book_design.specs.declared.fault.DesignFault.{DesignFault}
+use Rattle.book_design.specs.Files.{Files}
+use Rattle.book_design.specs.Values.{DesignValue}
+use Rattle.book_design.specs.Faults.{IsFirstFault}
+use Rattle.book_design.specs.Answers.{IsJoined}
+use Rattle.pad_reach.specs.Chain.{HasChain}
+use Rattle.pad_reach.specs.Reaches.{IsFirstUnanchored}
+use Rattle.net_model.specs.declared.fault.NetFault.{NetFault}
+use Rattle.net_model.specs.Values.{NetworkValue}
+use Rattle.net_model.specs.Network.{IsNetwork, IsFirstFault as IsFirstNetFault}
+use Rattle.net_model.specs.Webs.{joints_of}
+use Rattle.core_system.specs.declared.axis.Axis.TheVariants.{X, Y}
+use Rattle.proud_top.specs.declared.status.Refusal.{Refusal}
+use Rattle.proud_top.specs.declared.status.Refusal.TheVariants.{TooLong, Text, Design, Net, Unanchored}
+use Rattle.proud_top.specs.Accepted.{Accepts}
+use Rattle.proud_top.specs.Refused.{IsTooLong, IsBadText}
+use Rattle.proud_top.specs.Report.{Solve, report_of}
+use Rattle.proud_top.specs.Stops.{IsSolveOf}
+
+-- one step behind another, which goes on with what the first makes
+infixl 10 ◌then◌
+abbrev pub ◌then◌ : {B C : Type 0} → (Result B Refusal → Type 0) → (B → Result C Refusal → Type 0) → Result C Refusal → Type 0
+◌then◌ {B = B} first next (Ok made) = (middle : B) × first (Ok middle) × next middle (Ok made)
+◌then◌ {B = B} first next (Err refusal) = first (Err refusal) ⊎ ((middle : B) × first (Ok middle) × next middle (Err refusal))
+
+-- The records that the design's files hold; or the first file that is too long, or whose text has a fault.
+abbrev pub reads_known : List FileEntry → List ℕ → Result Files Refusal → Type 0
+reads_known files word (Ok records) = (names : AuxEntry) × Accepts files word names records
+reads_known files word (Err (TooLong kind)) = IsTooLong files word kind
+reads_known files word (Err (Text kind fault)) = IsBadText files word kind fault
+reads_known files word (Err (Design fault)) = ⊥
+reads_known files word (Err (Net fault)) = ⊥
+reads_known files word (Err (Unanchored point)) = ⊥
+
+-- the same of a folder whose files may be unknown: then nothing is said of them
+abbrev pub reads : Option (List FileEntry) → List ℕ → Result Files Refusal → Type 0
+reads None word result = Unit {0}
+reads (Some files) word result = reads_known files word result
+
+-- the design that the records make, or their first fault
+abbrev pub joins : Files → Result DesignValue Refusal → Type 0
+joins records (Ok design) = IsJoined records design
+joins records (Err refusal) = (fault : DesignFault) × (refusal ≡ Design fault) × IsFirstFault records fault
+
+-- the network of its nets, or their first fault
+abbrev pub wires : DesignValue → Result NetworkValue Refusal → Type 0
+wires design (Ok network) = IsNetwork design network
+wires design (Err refusal) = (fault : NetFault) × (refusal ≡ Net fault) × IsFirstNetFault design fault
+
+-- a chain leads from each point to a pad, or the first point without one
+abbrev pub reaches : NetworkValue → Result (Unit {0}) Refusal → Type 0
+reaches network (Ok done) = (p : ℕ) → p < length network.points → HasChain (joints_of network) p
+reaches network (Err refusal) = (point : ℕ) × (refusal ≡ Unanchored point) × IsFirstUnanchored (joints_of network) point
+
+-- the least and the greatest vector on each axis
+pub record Solved : Type 0 where
+  pub x : Solve
+  pub y : Solve
+
+pub record IsSolved (network : NetworkValue) (solved : Solved) : Type 0 where
+  pub x : IsSolveOf X network solved.x
+  pub y : IsSolveOf Y network solved.y
+
+abbrev pub solves : NetworkValue → Result Solved Refusal → Type 0
+solves network (Ok solved) = IsSolved network solved
+solves network (Err refusal) = ⊥
+
+abbrev pub reports : DesignValue → Solved → Result (List ℕ) Refusal → Type 0
+reports design solved (Ok text) = text ≡ report_of design solved.x solved.y
+reports design solved (Err refusal) = ⊥
+
+-- the steps behind the join
+abbrev pub places_design : DesignValue → Result (List ℕ) Refusal → Type 0
+places_design design = wires design then λ network. reaches network then λ done. solves network then λ solved. reports design solved
+
+abbrev pub places_records : Files → Result (List ℕ) Refusal → Type 0
+places_records records = joins records then places_design
+
+-- The whole flow: the report of what the design's files make, or the refusal at the first step that stops.
+abbrev pub places : Option (List FileEntry) → List ℕ → Result (List ℕ) Refusal → Type 0
+places files word = reads files word then λ records. joins records then λ design. wires design then λ network. reaches network then λ done. solves network then λ solved. reports design solved

@@ -1,7 +1,0 @@
-use Rattle.std.proofs.Common.{◌≡◌, take}
-use Rattle.relax_system.specs.declared.side.Side.TheVariants.{Ceil}
-use Rattle.relax_system.specs.Sides.{starts_of}
-use Rattle.relax_crew.proofs.ceil.tops.Given as goal
-
-abbrev pub invariant-loop-i : goal.invariant-loop-i
-invariant-loop-i l = l.start.items ≡ starts_of Ceil (take l.i l.system)

@@ -1,0 +1,187 @@
+//! The crew of a table, over its direction.
+
+ghost use Rattle.std.specs.Prelude.{◌≡◌, ◌+◌, ◌-◌, ◌<◌, ◌≤◌, length, vec_len, IfOk};
+ghost use Rattle.std.specs.Thread.{IsSync};
+ghost use Rattle.relax_system.specs.Sides.{starts_of, IsExtremal};
+ghost use Rattle.relax_table.specs.Seats.{IsSeatOf};
+ghost use Rattle.relax_crew.specs.Crew.{AllSeated, AllExtremal, IsCrewSize};
+
+use crate::bench::Bench;
+use crate::range::{MOST_SEATS, range_of};
+use book_outer::Gate;
+use book_text::Memory;
+use relax_system::{Side, System};
+use relax_table::{Direction, SideSeat, SideTable, Steps};
+use std::alloc::Global;
+use std::marker::Brand;
+use std::sync::ledger::{Blank, Ledger};
+use std::thread;
+use std::thread::Threads;
+
+/// A seat that has seen the extremal vector of its side, into which the seats of a crew were joined. Only want of memory is
+/// refused.
+pub(crate) fn solve<D: Direction, R: Threads + Sync, G: Gate>(
+    rt: &R,
+    alloc: Global,
+    system: &System,
+    seats: usize,
+    gate: &G,
+) -> Result<SideSeat<D>, Memory>
+    requires some { 0 < length system.now }
+    requires seats { IsCrewSize seats }
+    ensures system { IfOk result (λ s. s.system ≡ system.now) }
+    ensures start { IfOk result (λ s. s.start ≡ starts_of D.side system.now) }
+    ensures extremal { IfOk result (λ s. IsExtremal D.side system.now s.seen) }
+{
+    let points = system.points();
+    let start = starts(alloc, D::side(), system)?;
+    let (table, first) = SideTable::<D>::over(alloc, system, &start)?;
+    let mut benches = benches(alloc, &table, first, seats)?;
+    run(rt, &table, points, &mut benches, gate);
+    Ok(joined(&table, benches))
+}
+
+/// The ends of the boxes at which a side begins.
+fn starts(alloc: Global, side: Side, system: &System) -> Result<Vec<u64>, Memory>
+    ensures { IfOk result (λ v. v.items ≡ starts_of side system.now) }
+{
+    let mut start = Vec::new(alloc);
+    for i in 0..system.points() {
+        let point = system.point(i);
+        start.push(match side {
+            Side::Floor => point.lo,
+            Side::Ceil => point.hi,
+        })?;
+    }
+    Ok(start)
+}
+
+/// Benches with seats of the table, of which the first is given.
+fn benches<D: Direction>(
+    alloc: Global,
+    table: &SideTable<'_, D>,
+    mut first: SideSeat<D>,
+    seats: usize,
+) -> Result<Vec<Bench<D>>, Memory>
+    requires own { IsSeatOf table.now first }
+    requires some { 1 ≤ seats }
+    ensures count { IfOk result (λ b. vec_len b ≡ seats) }
+    ensures seated { IfOk result (λ b. AllSeated table.now b.items) }
+{
+    let mut benches = Vec::new(alloc);
+    for _ in 1..seats {
+        benches.push(Bench::new(table.split_side(&mut first)?))?;
+    }
+    benches.push(Bench::new(first))?;
+    Ok(benches)
+}
+
+/// Runs each seat in a thread of its own.
+fn run<D: Direction, R: Threads + Sync, G: Gate>(
+    rt: &R,
+    table: &SideTable<'_, D>,
+    points: usize,
+    benches: &mut [Bench<D>],
+    gate: &G,
+)
+    requires points { points ≡ length table.now.system }
+    requires few { points ≤ 2097152 }
+    requires some { IsCrewSize (length benches.old) }
+    requires seated { AllSeated table.now benches.old }
+    ensures count { length benches.new ≡ length benches.old }
+    ensures seated { AllSeated table.now benches.new }
+    ensures extremal { AllExtremal D.side table.now.system benches.new }
+{
+    let seats = benches.len();
+    thread::for_each_mut(
+        rt,
+        benches,
+        seats,
+        &|k, bench: &mut Bench<D>|
+            requires { IsSync G.row × (k < seats) × (seats ≤ MOST_SEATS) × (points ≤ 2097152) × (points ≡ length table.now.system) × IsSeatOf table.now bench.now.seat }
+            ensures { IsSeatOf table.entry.now bench.exit.now.seat × IsExtremal D.side table.entry.now.system bench.exit.now.seat.seen }
+        { take_turn(table, bench, k, range_of(k, seats, points), gate) },
+    );
+}
+
+/// What the thread of a seat does. Its steps aren't counted.
+fn take_turn<D: Direction, G: Gate>(
+    table: &SideTable<'_, D>,
+    bench: &mut Bench<D>,
+    k: usize,
+    range: (usize, usize),
+    gate: &G,
+)
+    requires own { IsSeatOf table.now bench.old.seat }
+    requires order { range.0 ≤ range.1 }
+    requires within { range.1 ≤ length table.now.system }
+    ensures own { IsSeatOf table.now bench.new.seat }
+    ensures extremal { IsExtremal D.side table.now.system bench.new.seat.seen }
+{
+    work::<D, Brand, G>(table, &mut bench.seat, k, range, gate, Blank::new(1));
+}
+
+/// What one seat does: it relaxes its range once, calling the gate after each point, settles its range, and settles all points.
+fn work<D: Direction, L: Ledger, G: Gate>(
+    table: &SideTable<'_, D>,
+    seat: &mut SideSeat<D>,
+    k: usize,
+    range: (usize, usize),
+    gate: &G,
+    blank: Blank,
+)
+    requires own { IsSeatOf table.now seat.old }
+    requires order { range.0 ≤ range.1 }
+    requires within { range.1 ≤ length table.now.system }
+    requires name { blank.name ≡ L.name }
+    requires parts { blank.parts ≡ L.parts }
+    requires any { 0 < L.parts }
+    ensures own { IsSeatOf table.now seat.new }
+    ensures extremal { IsExtremal D.side table.now.system seat.new.seen }
+{
+    let mut steps = Steps::<L>::new(blank);
+    let (from, to) = range;
+    first_sweep(table, seat, k, range, gate, &mut steps);
+    table.settle_side(seat, from, to, &mut steps);
+    table.settle_all(seat, &mut steps);
+}
+
+/// Relaxes each point of a range once, and calls the gate after each.
+fn first_sweep<D: Direction, L: Ledger, G: Gate>(
+    table: &SideTable<'_, D>,
+    seat: &mut SideSeat<D>,
+    k: usize,
+    range: (usize, usize),
+    gate: &G,
+    steps: &mut Steps<L>,
+)
+    requires own { IsSeatOf table.now seat.old }
+    requires order { range.0 ≤ range.1 }
+    requires within { range.1 ≤ length table.now.system }
+    ensures own { IsSeatOf table.now seat.new }
+    ensures fetches { seat.new.fetches ≡ seat.old.fetches + (range.1 - range.0) }
+{
+    let (from, to) = range;
+    for i in from..to {
+        table.relax_side(seat, i, steps);
+        gate.pass(k, i);
+    }
+}
+
+/// Joins all seats into one.
+fn joined<D: Direction>(table: &SideTable<'_, D>, mut benches: Vec<Bench<D>>) -> SideSeat<D>
+    requires some { 1 ≤ vec_len benches }
+    requires seated { AllSeated table.now benches.items }
+    requires extremal { AllExtremal D.side table.now.system benches.items }
+    ensures own { IsSeatOf table.now result }
+    ensures extremal { IsExtremal D.side table.now.system result.seen }
+{
+    let Some(last) = benches.pop() else {
+        unreachable!()
+    };
+    let mut seat = last.seat;
+    'more: while let Some(bench) = benches.pop() {
+        seat = table.join_sides(seat, bench.seat);
+    }
+    seat
+}
