@@ -8,7 +8,7 @@ use native.Mathlib.Nat.{mul-le-mul}
 use Rattle.book_design.specs.declared.strips.Strip.{Strip as Kept}
 use Rattle.book_design.specs.declared.parts.Subrow.{Subrow}
 use Rattle.book_design.specs.declared.parts.Core.{Core}
-use Rattle.book_design.specs.Files.{Files, Strip, strips, strip_at, row_at}
+use Rattle.book_design.specs.Records.{Records, Strip, strips, strip_at, row_at}
 use Rattle.book_design.specs.Values.{DesignValue}
 use Rattle.book_design.specs.Faults.{ShareArea}
 use Rattle.book_design.specs.Joined.{HasSite, IsCore, Joins, joined_node, joined_subrow}
@@ -20,17 +20,17 @@ use Rattle.book_design.specs.Steps.{IsFreeFrom}
 use Rattle.book_design.proofs.AssemblyNodes.{all_from, good_nodes, distinct_nodes, good_nets, few_pins, nets_same}
 use Rattle.book_design.proofs.AssemblyStrips.{each_fine, first_row, kept_is, kept_count, some_site, all_narrow}
 
-pub subrow_is : (files : Files) (s : ℕ) → s < length (strips files) → subrow_at (map joined_kept (outlines files)) s ≡ joined_kept (outline (strip_at files s))
+pub subrow_is : (files : Records) (s : ℕ) → s < length (strips files) → subrow_at (map joined_kept (outlines files)) s ≡ joined_kept (outline (strip_at files s))
 subrow_is files s there = let count = kept_count files in let within : s < length (outlines files) = omega arith in get_or-map joined_kept (outlines files) s _ _ within ∙ ap joined_kept (kept_is files s there)
 
 pub subrows_same : (all : List Strip) → map joined_kept (map outline all) ≡ map joined_subrow all
 subrows_same [] = refl
 subrows_same (s ∷ all) = ap (λ (rest : List Subrow). joined_subrow s ∷ rest) (subrows_same all)
 
-pub subrow_count : (files : Files) → length (map joined_kept (outlines files)) ≡ length (strips files)
+pub subrow_count : (files : Records) → length (map joined_kept (outlines files)) ≡ length (strips files)
 subrow_count files = length-map (outlines files) joined_kept ∙ kept_count files
 
-pub good_subrows : (files : Files) → AreInRange files → IsFreeFrom files 1 14 → AllByRecursion (IsGoodSubrow (row_at files 0).pitch (row_at files 0).height) (map joined_kept (outlines files))
+pub good_subrows : (files : Records) → AreInRange files → IsFreeFrom files 1 14 → AllByRecursion (IsGoodSubrow (row_at files 0).pitch (row_at files 0).height) (map joined_kept (outlines files))
 good_subrows files ranges free = all_from (IsGoodSubrow (row_at files 0).pitch (row_at files 0).height) (map joined_kept (outlines files)) (record { row = 0; x = pos 0; y = pos 0; sites = 0 }) (λ s l.
     let count = subrow_count files in
     let there : s < length (strips files) = omega arith in
@@ -44,7 +44,7 @@ above_zero n (pos p) h k = let one : 1 ≤ n = h in let two : 1 ≤ p = omega (a
 above_zero n (negsuc p) h k = absurd (omega (arith, ints))
 
 -- two subrows that don't share area stand apart
-apart_by : (files : Files) (a b : Strip) (pitch height : ℤ) → pos 0 <ℤ pitch → pos 0 <ℤ height → a.right ≡ a.left +ℤ pos a.sites *ℤ pitch → b.right ≡ b.left +ℤ pos b.sites *ℤ pitch → a.upper ≡ a.lower +ℤ height → b.upper ≡ b.lower +ℤ height → (ShareArea a b → ⊥) → AreApart pitch height (joined_kept (outline a)) (joined_kept (outline b))
+apart_by : (files : Records) (a b : Strip) (pitch height : ℤ) → pos 0 <ℤ pitch → pos 0 <ℤ height → a.right ≡ a.left +ℤ pos a.sites *ℤ pitch → b.right ≡ b.left +ℤ pos b.sites *ℤ pitch → a.upper ≡ a.lower +ℤ height → b.upper ≡ b.lower +ℤ height → (ShareArea a b → ⊥) → AreApart pitch height (joined_kept (outline a)) (joined_kept (outline b))
 apart_by files a b pitch height p q e f g h none =
     ⊎_elim (λ z. inl z) (λ some_a. ⊎_elim (λ z. inr (inl z)) (λ some_b.
     let one : 0 < a.sites = omega arith in
@@ -69,7 +69,7 @@ apart_by files a b pitch height p q e f g h none =
     (λ k. inr (inr (inr (inl k)))))
     (λ k. inr (inr (inl k)))) (cases_eq b.sites 0)) (cases_eq a.sites 0)
 
-pub apart : (files : Files) → AreInRange files → IsFreeFrom files 1 14 → (s t : ℕ) → s < t → t < length (map joined_kept (outlines files)) → AreApart (row_at files 0).pitch (row_at files 0).height (subrow_at (map joined_kept (outlines files)) s) (subrow_at (map joined_kept (outlines files)) t)
+pub apart : (files : Records) → AreInRange files → IsFreeFrom files 1 14 → (s t : ℕ) → s < t → t < length (map joined_kept (outlines files)) → AreApart (row_at files 0).pitch (row_at files 0).height (subrow_at (map joined_kept (outlines files)) s) (subrow_at (map joined_kept (outlines files)) t)
 apart files ranges free s t less below =
     let count = subrow_count files in
     let there : t < length (strips files) = omega arith in
@@ -83,7 +83,7 @@ apart files ranges free s t less below =
     (apart_by files (strip_at files s) (strip_at files t) (row_at files 0).pitch (row_at files 0).height row.pitch_sign row.height_sign a.ends b.ends a.above b.above
     (λ shared. free.free 6 (omega arith) (omega arith) t (record { there = there; earlier = s; before = less; shared = shared }))))
 
-pub good_core : (files : Files) (core : Core) → AreInRange files → IsFreeFrom files 1 14 → IsCoreOf (row_at files 0).height (outlines files) (length (outlines files)) core → IsGoodCore core
+pub good_core : (files : Records) (core : Core) → AreInRange files → IsFreeFrom files 1 14 → IsCoreOf (row_at files 0).height (outlines files) (length (outlines files)) core → IsGoodCore core
 good_core files core ranges free h =
     let narrow = all_narrow files ranges free in
     let some = some_site files free in
@@ -109,13 +109,13 @@ good_core files core ranges free h =
       high = omega (arith, ints);
     }
 
-to_kept : (files : Files) (s : ℕ) → HasSite files s → HasSiteBefore (outlines files) (length (outlines files)) s
+to_kept : (files : Records) (s : ℕ) → HasSite files s → HasSiteBefore (outlines files) (length (outlines files)) s
 to_kept files s h = let count = kept_count files in let below : s < length (strips files) = h.0 in let P : Kept → Type 0 = λ k. 0 < k.sites in (omega arith, subst P (sym (kept_is files s below)) h.1)
 
-from_kept : (files : Files) (s : ℕ) → HasSiteBefore (outlines files) (length (outlines files)) s → HasSite files s
+from_kept : (files : Records) (s : ℕ) → HasSiteBefore (outlines files) (length (outlines files)) s → HasSite files s
 from_kept files s h = let count = kept_count files in let below : s < length (outlines files) = h.0 in let there : s < length (strips files) = omega arith in let P : Kept → Type 0 = λ k. 0 < k.sites in (there, subst P (kept_is files s there) h.1)
 
-pub is_core : (files : Files) (core : Core) → AreInRange files → IsFreeFrom files 1 14 → IsCoreOf (row_at files 0).height (outlines files) (length (outlines files)) core → IsCore files core
+pub is_core : (files : Records) (core : Core) → AreInRange files → IsFreeFrom files 1 14 → IsCoreOf (row_at files 0).height (outlines files) (length (outlines files)) core → IsCore files core
 is_core files core ranges free h = record {
   left = λ s w. let P : Kept → Type 0 = λ k. core.xlo ≤ℤ k.left in subst P (kept_is files s w.0) (h.left.least s (to_kept files s w));
   right = λ s w. let P : Kept → Type 0 = λ k. k.right ≤ℤ core.xhi in subst P (kept_is files s w.0) (h.right.greatest s (to_kept files s w));
@@ -128,7 +128,7 @@ is_core files core ranges free h = record {
 }
 
 -- the design that the files make, as its parts are assembled
-abbrev pub made : Files → Core → DesignValue
+abbrev pub made : Records → Core → DesignValue
 made files core = record {
   nodes = map (joined_node files) files.nodes;
   nets = map (pinned_net files) files.nets;
@@ -138,7 +138,7 @@ made files core = record {
   row_height = (row_at files 0).height;
 }
 
-pub is_design : (files : Files) (core : Core) → AreInRange files → IsFreeFrom files 1 14 → length files.nets < 2 ^ 32 → IsCoreOf (row_at files 0).height (outlines files) (length (outlines files)) core → IsDesign (made files core)
+pub is_design : (files : Records) (core : Core) → AreInRange files → IsFreeFrom files 1 14 → length files.nets < 2 ^ 32 → IsCoreOf (row_at files 0).height (outlines files) (length (outlines files)) core → IsDesign (made files core)
 is_design files core ranges free few h =
     let row = first_row files ranges free in
     let nodes = length-map files.nodes (joined_node files) in
@@ -166,7 +166,7 @@ is_design files core ranges free few h =
       height_sign = omega (arith, ints);
     }
 
-pub joins : (files : Files) (core : Core) → AreInRange files → IsFreeFrom files 1 14 → IsCoreOf (row_at files 0).height (outlines files) (length (outlines files)) core → Joins files (made files core)
+pub joins : (files : Records) (core : Core) → AreInRange files → IsFreeFrom files 1 14 → IsCoreOf (row_at files 0).height (outlines files) (length (outlines files)) core → Joins files (made files core)
 joins files core ranges free h = record {
   nodes = refl;
   nets = nets_same files free;

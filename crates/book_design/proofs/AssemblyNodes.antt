@@ -11,7 +11,7 @@ use Rattle.std.proofs.lemmas.List.Concat.{length-flat_map}
 use Rattle.std.proofs.lemmas.Int.{ints, by_lt_z}
 use Rattle.book_files.specs.Entries.{NodeEntry, PlaceEntry, PinEntry, NetEntry}
 use Rattle.book_files.specs.Ranges.{IsInRange, IsNodeInRange, IsPlaceInRange, IsPinInRange, IsNetInRange}
-use Rattle.book_design.specs.Files.{Files, node_at, pin_lines, row_at, last_of, last_place}
+use Rattle.book_design.specs.Records.{Records, node_at, pin_lines, row_at, last_of, last_place}
 use Rattle.book_design.specs.Values.{NodeValue, NetValue}
 use Rattle.book_design.specs.Joined.{joined_node, placed, joined_pin, number_of, weight_of, joined_net}
 use Rattle.book_files.specs.declared.orient.Orient.TheVariants.{N}
@@ -50,16 +50,16 @@ placed_name : (node : NodeEntry) (place : Option PlaceEntry) → (placed node pl
 placed_name node None = refl
 placed_name node (Some place) = refl
 
-pub node_is : (files : Files) (i : ℕ) (d : NodeValue) → i < length files.nodes → get_or (map (joined_node files) files.nodes) i d ≡ joined_node files (node_at files i)
+pub node_is : (files : Records) (i : ℕ) (d : NodeValue) → i < length files.nodes → get_or (map (joined_node files) files.nodes) i d ≡ joined_node files (node_at files i)
 node_is files i d there = get_or-map (joined_node files) files.nodes i _ d there
 
 abbrev no_value : NodeValue
 no_value = record { name = []; width = pos 0; height = pos 0; x = pos 0; y = pos 0; orient = N; fixed = true }
 
-named : (files : Files) (k : ℕ) → k < length files.nodes → (node_value_at (map (joined_node files) files.nodes) k).name ≡ (node_at files k).name
+named : (files : Records) (k : ℕ) → k < length files.nodes → (node_value_at (map (joined_node files) files.nodes) k).name ≡ (node_at files k).name
 named files k there = ap (λ (v : NodeValue). v.name) (node_is files k no_value there) ∙ placed_name (node_at files k) (last_place files (node_at files k).name)
 
-pub good_nodes : (files : Files) → AreInRange files → IsFreeFrom files 1 14 → AllByRecursion (IsGoodNode (row_at files 0).height) (map (joined_node files) files.nodes)
+pub good_nodes : (files : Records) → AreInRange files → IsFreeFrom files 1 14 → AllByRecursion (IsGoodNode (row_at files 0).height) (map (joined_node files) files.nodes)
 good_nodes files ranges free = all_from (IsGoodNode height) (map (joined_node files) files.nodes) no_value (λ i l.
     let count = length-map files.nodes (joined_node files) in
     let there : i < length files.nodes = omega arith in
@@ -72,7 +72,7 @@ good_nodes files ranges free = all_from (IsGoodNode height) (map (joined_node fi
       height : ℤ
       height = (row_at files 0).height
 
-pub distinct_nodes : (files : Files) → IsFreeFrom files 1 14 → (i j : ℕ) → i < j → j < length (map (joined_node files) files.nodes) → (node_value_at (map (joined_node files) files.nodes) i).name ≢ (node_value_at (map (joined_node files) files.nodes) j).name
+pub distinct_nodes : (files : Records) → IsFreeFrom files 1 14 → (i j : ℕ) → i < j → j < length (map (joined_node files) files.nodes) → (node_value_at (map (joined_node files) files.nodes) i).name ≢ (node_value_at (map (joined_node files) files.nodes) j).name
 distinct_nodes files free i j less below same =
     let count = length-map files.nodes (joined_node files) in
     let there : j < length files.nodes = omega arith in
@@ -90,7 +90,7 @@ weight_bound (pos n) = bounded (n % 1000000 == 0) (nat_le (n / 1000000) 65535) (
 weight_bound (negsuc n) = omega arith
 
 -- a pin has the number of a node
-known : (files : Files) (name : List ℕ) → (IsUnknown files name → ⊥) → number_of files name < length files.nodes
+known : (files : Records) (name : List ℕ) → (IsUnknown files name → ⊥) → number_of files name < length files.nodes
 known files name h = ⊎_elim (λ l. l) (λ past. absurd (h (λ i there same.
     let no : bytes_eq (node_at files i).name name ≡ false = fails_before_first (λ node. bytes_eq node.name name) files.nodes i _ (omega arith) in
     let yes : bytes_eq (node_at files i).name name ≡ true = (bytes_eq-Decides (node_at files i).name name).1 same in
@@ -104,26 +104,26 @@ split : {X A : Type 0} (P : A → Type 0) (f : X → List A) (xs : List X) → A
 split P f [] h = tt
 split P f (x ∷ xs) h = let parts = first_part P (f x) (flat_map f xs) h in (parts.0, split P f xs parts.1)
 
-good_pins : (files : Files) (pins : List PinEntry) → AllByRecursion IsPinInRange pins → AllByRecursion (λ (pin : PinEntry). IsUnknown files pin.node → ⊥) pins → AllByRecursion (IsGoodPin (length files.nodes)) (map (joined_pin files) pins)
+good_pins : (files : Records) (pins : List PinEntry) → AllByRecursion IsPinInRange pins → AllByRecursion (λ (pin : PinEntry). IsUnknown files pin.node → ⊥) pins → AllByRecursion (IsGoodPin (length files.nodes)) (map (joined_pin files) pins)
 good_pins files [] h k = tt
 good_pins files (pin ∷ pins) h k = (record { there = known files pin.node k.0; dx = h.0.dx; dy = h.0.dy }, good_pins files pins h.1 k.1)
 
-good_each : (files : Files) (nets : List NetEntry) → AllByRecursion IsNetInRange nets → AllByRecursion (λ (net : NetEntry). AllByRecursion (λ (pin : PinEntry). IsUnknown files pin.node → ⊥) net.pins) nets → AllByRecursion (IsGoodNet (length files.nodes)) (map (pinned_net files) nets)
+good_each : (files : Records) (nets : List NetEntry) → AllByRecursion IsNetInRange nets → AllByRecursion (λ (net : NetEntry). AllByRecursion (λ (pin : PinEntry). IsUnknown files pin.node → ⊥) net.pins) nets → AllByRecursion (IsGoodNet (length files.nodes)) (map (pinned_net files) nets)
 good_each files [] h k = tt
 good_each files (net ∷ nets) h k = (record { weight = weight_bound (weight_of files net); pins = good_pins files net.pins h.0 k.0 }, good_each files nets h.1 k.1)
 
-pub good_nets : (files : Files) → AreInRange files → IsFreeFrom files 1 14 → AllByRecursion (IsGoodNet (length files.nodes)) (map (pinned_net files) files.nets)
+pub good_nets : (files : Records) → AreInRange files → IsFreeFrom files 1 14 → AllByRecursion (IsGoodNet (length files.nodes)) (map (pinned_net files) files.nets)
 good_nets files ranges free = good_each files files.nets ranges.nets (split (λ (pin : PinEntry). IsUnknown files pin.node → ⊥) (λ (net : NetEntry). net.pins) files.nets
     (all_from (λ (pin : PinEntry). IsUnknown files pin.node → ⊥) (pin_lines files) _ (λ i l unknown. (free.free 2 (omega arith) (omega arith)).pins i (l, unknown))))
 
 sum_cons : {X : Type 0} (f : X → ℕ) (x : X) (xs : List X) → sum_by f (x ∷ xs) ≡ f x + sum_by f xs
 sum_cons f x xs = sum_by-append f (x ∷ []) xs ∙ ap (λ n. n + sum_by f xs) (grind arith)
 
-pins_same : (files : Files) (nets : List NetEntry) → sum_by (λ (net : NetValue). length net.pins) (map (pinned_net files) nets) ≡ sum_by (λ (net : NetEntry). length net.pins) nets
+pins_same : (files : Records) (nets : List NetEntry) → sum_by (λ (net : NetValue). length net.pins) (map (pinned_net files) nets) ≡ sum_by (λ (net : NetEntry). length net.pins) nets
 pins_same files [] = refl
 pins_same files (net ∷ nets) = let one = length-map net.pins (joined_pin files) in let more = pins_same files nets in let two = sum_cons (λ (net : NetValue). length net.pins) (pinned_net files net) (map (pinned_net files) nets) in let three = sum_cons (λ (net : NetEntry). length net.pins) net nets in omega arith
 
-pub few_pins : (files : Files) → IsFreeFrom files 1 14 → sum_by (λ (net : NetValue). length net.pins) (map (pinned_net files) files.nets) ≤ 2 ^ 24
+pub few_pins : (files : Records) → IsFreeFrom files 1 14 → sum_by (λ (net : NetValue). length net.pins) (map (pinned_net files) files.nets) ≤ 2 ^ 24
 few_pins files free =
     let few = free.free 9 (omega arith) (omega arith) in
     let same = pins_same files files.nets in
@@ -140,9 +140,9 @@ exact : (w : ℤ) → ((IsWholeWeight w → ⊥) → ⊥) → unwrap_or (whole_w
 exact (pos n) h = exact_by n 0 (n % 1000000 == 0) (nat_le (n / 1000000) 65535) refl refl h
 exact (negsuc n) h = absurd (h (λ w. let e = w.2 in absurd (omega (arith, ints))))
 
-net_same : (files : Files) (nets : List NetEntry) → AllByRecursion (λ (net : NetEntry). (IsWholeWeight (weight_of files net) → ⊥) → ⊥) nets → map (pinned_net files) nets ≡ map (joined_net files) nets
+net_same : (files : Records) (nets : List NetEntry) → AllByRecursion (λ (net : NetEntry). (IsWholeWeight (weight_of files net) → ⊥) → ⊥) nets → map (pinned_net files) nets ≡ map (joined_net files) nets
 net_same files [] h = refl
 net_same files (net ∷ nets) h = λ i. record { weight = exact (weight_of files net) h.0 i; pins = map (joined_pin files) net.pins } ∷ net_same files nets h.1 i
 
-pub nets_same : (files : Files) → IsFreeFrom files 1 14 → map (pinned_net files) files.nets ≡ map (joined_net files) files.nets
+pub nets_same : (files : Records) → IsFreeFrom files 1 14 → map (pinned_net files) files.nets ≡ map (joined_net files) files.nets
 nets_same files free = net_same files files.nets (all_from (λ (net : NetEntry). (IsWholeWeight (weight_of files net) → ⊥) → ⊥) files.nets _ (λ i l bad. free.free 12 (omega arith) (omega arith) i (l, bad)))

@@ -7,7 +7,7 @@ use Rattle.std.proofs.lemmas.Int.{ints, by_lt_z}
 use Rattle.book_files.specs.Entries.{SubrowEntry, RowEntry}
 use Rattle.book_files.specs.Ranges.{IsInRange, IsRowInRange, IsSubrowInRange}
 use Rattle.book_design.specs.declared.strips.Strip.{Strip as Kept}
-use Rattle.book_design.specs.Files.{Files, Strip, strip_of, strips_from, strips, strip_at, row_at}
+use Rattle.book_design.specs.Records.{Records, Strip, strip_of, strips_from, strips, strip_at, row_at}
 use Rattle.book_design.specs.Faults.{IsMixedRow}
 use Rattle.book_design.specs.Parts.{outline, outlines, kept_at}
 use Rattle.book_design.specs.Assembly.{IsNarrow, AreNarrow, HasSiteBefore}
@@ -60,7 +60,7 @@ all_of (row ∷ rows) r h = both (IsOf (row ∷ rows) r) (map (strip_of r row) r
     (weaken (IsOf rows (1 + r)) (IsOf (row ∷ rows) r) (later row rows r) (strips_from (1 + r) rows) (all_of rows (1 + r) h.1))
 
 -- what holds of each subrow of files without a fault
-pub record IsFine (files : Files) (s : ℕ) : Type 0 where
+pub record IsFine (files : Records) (s : ℕ) : Type 0 where
   pub x : IsInRange (strip_at files s).left
   pub y : IsInRange (strip_at files s).lower
   pub wide : (strip_at files s).left ≤ℤ (strip_at files s).right
@@ -71,7 +71,7 @@ pub record IsFine (files : Files) (s : ℕ) : Type 0 where
   pub above : (strip_at files s).upper ≡ (strip_at files s).lower +ℤ (row_at files 0).height
 
 -- a row that isn't mixed
-alike : (files : Files) → ((r : ℕ) → IsMixedRow files r → ⊥) → (r : ℕ) → r < length files.rows → ((row_at files r).height ≡ (row_at files 0).height) × ((row_at files r).pitch ≡ (row_at files 0).pitch)
+alike : (files : Records) → ((r : ℕ) → IsMixedRow files r → ⊥) → (r : ℕ) → r < length files.rows → ((row_at files r).height ≡ (row_at files 0).height) × ((row_at files r).pitch ≡ (row_at files 0).pitch)
 alike files free r there = (
   by_lt_z (row_at files r).height (row_at files 0).height
       (λ l. absurd (free r (record { there = there; other = inl (λ e. let t = e in omega (arith, ints)) })))
@@ -89,7 +89,7 @@ never_below : (n : ℕ) (p : ℤ) → pos 0 <ℤ p → pos 0 ≤ℤ (pos n *ℤ 
 never_below n (pos p) h = omega (arith, ints)
 never_below n (negsuc p) h = absurd (omega (arith, ints))
 
-fine : (files : Files) → IsFreeFrom files 1 14 → (s : ℕ) → s < length (strips files) → IsOf files.rows 0 (strip_at files s) → IsFine files s
+fine : (files : Records) → IsFreeFrom files 1 14 → (s : ℕ) → s < length (strips files) → IsOf files.rows 0 (strip_at files s) → IsFine files s
 fine files free s there h =
     let strip = strip_at files s in
     let row_is : row_at files h.row ≡ h.entry = h.at _ in
@@ -118,27 +118,27 @@ fine files free s there h =
       above = above;
     }
 
-pub each_fine : (files : Files) → AreInRange files → IsFreeFrom files 1 14 → (s : ℕ) → s < length (strips files) → IsFine files s
+pub each_fine : (files : Records) → AreInRange files → IsFreeFrom files 1 14 → (s : ℕ) → s < length (strips files) → IsFine files s
 each_fine files ranges free s there = fine files free s there (all_at (IsOf files.rows 0) (strips files) s _ (all_of files.rows 0 ranges.rows) there)
 
 -- the rows that are there have a positive height
-some_row : (files : Files) → IsFreeFrom files 1 14 → 0 < length files.rows
+some_row : (files : Records) → IsFreeFrom files 1 14 → 0 < length files.rows
 some_row files free = by files.rows (free.free 4 (omega arith) (omega arith)).0 (free.free 4 (omega arith) (omega arith)).1.0 where
   by : (rows : List RowEntry) (s : ℕ) → s < length (strips_from 0 rows) → 0 < length rows
   by [] s l = absurd (omega arith)
   by (row ∷ rows) s l = omega arith
 
-pub first_row : (files : Files) → AreInRange files → IsFreeFrom files 1 14 → IsRowInRange (row_at files 0)
+pub first_row : (files : Records) → AreInRange files → IsFreeFrom files 1 14 → IsRowInRange (row_at files 0)
 first_row files ranges free = all_at IsRowInRange files.rows 0 _ ranges.rows (some_row files free)
 
-pub kept_is : (files : Files) (s : ℕ) → s < length (strips files) → kept_at (outlines files) s ≡ outline (strip_at files s)
+pub kept_is : (files : Records) (s : ℕ) → s < length (strips files) → kept_at (outlines files) s ≡ outline (strip_at files s)
 kept_is files s there = get_or-map outline (strips files) s _ _ there
 
-pub kept_count : (files : Files) → length (outlines files) ≡ length (strips files)
+pub kept_count : (files : Records) → length (outlines files) ≡ length (strips files)
 kept_count files = length-map (strips files) outline
 
 -- the subrows as they are kept lie within the limits
-pub all_narrow : (files : Files) → AreInRange files → IsFreeFrom files 1 14 → AreNarrow (row_at files 0).height (outlines files)
+pub all_narrow : (files : Records) → AreInRange files → IsFreeFrom files 1 14 → AreNarrow (row_at files 0).height (outlines files)
 all_narrow files ranges free s below =
     let count = kept_count files in
     let there : s < length (strips files) = omega arith in
@@ -159,7 +159,7 @@ all_narrow files ranges free s below =
       sites = h.sites;
     })
 
-pub some_site : (files : Files) → IsFreeFrom files 1 14 → (s : ℕ) × HasSiteBefore (outlines files) (length (outlines files)) s
+pub some_site : (files : Records) → IsFreeFrom files 1 14 → (s : ℕ) × HasSiteBefore (outlines files) (length (outlines files)) s
 some_site files free =
     let h = free.free 4 (omega arith) (omega arith) in
     let count = kept_count files in
@@ -167,5 +167,5 @@ some_site files free =
     let P : Kept → Type 0 = λ k. 0 < k.sites in
     (h.0, (omega arith, subst P (sym (kept_is files h.0 there)) h.1.1))
 
-pub few_nodes : (files : Files) → IsFreeFrom files 1 14 → length files.nodes ≤ 2 ^ 20
+pub few_nodes : (files : Records) → IsFreeFrom files 1 14 → length files.nodes ≤ 2 ^ 20
 few_nodes files free = free.free 8 (omega arith) (omega arith)

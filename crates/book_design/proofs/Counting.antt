@@ -12,7 +12,7 @@ use Rattle.book_design.specs.declared.parts.Node.{Node}
 use Rattle.book_design.specs.declared.fault.DesignFault.TheVariants.{TallCell, Limit}
 use Rattle.book_design.specs.declared.strips.Strip.{Strip as Kept}
 use Rattle.book_design.specs.declared.rows.RowShape.{RowShape}
-use Rattle.book_design.specs.Files.{Files, node_at, last_place, pin_lines, strips}
+use Rattle.book_design.specs.Records.{Records, node_at, last_place, pin_lines, strips}
 use Rattle.book_design.specs.Joined.{placed, joined_node}
 use Rattle.book_design.specs.Values.{NodeValue, node_value, node_values}
 use Rattle.book_design.specs.Faults.{IsFirst, IsTall}
@@ -44,10 +44,10 @@ placed_height : (node : NodeEntry) (place : Option PlaceEntry) → (placed node 
 placed_height node None = refl
 placed_height node (Some place) = refl
 
-joined_is : (files : Files) (i : ℕ) → i < length files.nodes → value_at (map (joined_node files) files.nodes) i ≡ joined_node files (node_at files i)
+joined_is : (files : Records) (i : ℕ) → i < length files.nodes → value_at (map (joined_node files) files.nodes) i ≡ joined_node files (node_at files i)
 joined_is files i there = get_or-map (joined_node files) files.nodes i _ _ there
 
-higher_is_tall : (files : Files) (shape : RowShape) (i : ℕ) → IsShape files shape → IsHigher (map (joined_node files) files.nodes) shape.height i
+higher_is_tall : (files : Records) (shape : RowShape) (i : ℕ) → IsShape files shape → IsHigher (map (joined_node files) files.nodes) shape.height i
     → IsTall files i
 higher_is_tall files shape i s h =
     let same : length (map (joined_node files) files.nodes) ≡ length files.nodes = length-map files.nodes (joined_node files) in
@@ -59,7 +59,7 @@ higher_is_tall files shape i s h =
     let Q : ℤ → Type 0 = λ z. shape.height <ℤ z in
     record { there = there; movable = ap (λ (v : NodeValue). v.fixed) (sym here) ∙ h.movable; higher = subst P s.height (subst Q high h.higher) }
 
-tall_is_higher : (files : Files) (shape : RowShape) (i : ℕ) → IsShape files shape → IsTall files i
+tall_is_higher : (files : Records) (shape : RowShape) (i : ℕ) → IsShape files shape → IsTall files i
     → IsHigher (map (joined_node files) files.nodes) shape.height i
 tall_is_higher files shape i s h =
     let same : length (map (joined_node files) files.nodes) ≡ length files.nodes = length-map files.nodes (joined_node files) in
@@ -70,7 +70,7 @@ tall_is_higher files shape i s h =
     let Q : ℤ → Type 0 = λ z. shape.height <ℤ z in
     record { there = omega (arith, h.there); movable = ap (λ (v : NodeValue). v.fixed) here ∙ h.movable; higher = subst Q (sym high) (subst P (sym s.height) h.higher) }
 
-pub tall_first : (files : Files) (shape : RowShape) (nodes : List NodeValue) (i : ℕ) → IsShape files shape → nodes ≡ map (joined_node files) files.nodes
+pub tall_first : (files : Records) (shape : RowShape) (nodes : List NodeValue) (i : ℕ) → IsShape files shape → nodes ≡ map (joined_node files) files.nodes
     → IsFirst (IsHigher nodes shape.height) i → IsFirstFrom files 7 (TallCell i)
 tall_first files shape nodes i s e h =
     let P : List NodeValue → Type 0 = λ vs. IsFirst (IsHigher vs shape.height) i in
@@ -80,7 +80,7 @@ tall_first files shape nodes i s e h =
       not_before = λ j below tall. first.not_before j below (tall_is_higher files shape j s tall);
     })
 
-pub none_tall : (files : Files) (shape : RowShape) (nodes : List NodeValue) → IsShape files shape → nodes ≡ map (joined_node files) files.nodes
+pub none_tall : (files : Records) (shape : RowShape) (nodes : List NodeValue) → IsShape files shape → nodes ≡ map (joined_node files) files.nodes
     → ((i : ℕ) → IsHigher nodes shape.height i → ⊥) → IsFree files 7
 none_tall files shape nodes s e none =
     let P : List NodeValue → Type 0 = λ vs. (i : ℕ) → IsHigher vs shape.height i → ⊥ in
@@ -108,33 +108,33 @@ pub pins_within : (nets : List NetBlock) (n : ℕ) (d : NetBlock) (net : NetBloc
 pins_within nets n d net below e =
     rw (counted (take n nets), counted nets, e) (sum_by_more_le block_pins nets n d below)
 
-pub pin_lines_counted : (files : Files) → length (pin_lines files) ≡ pin_count files.nets
+pub pin_lines_counted : (files : Records) → length (pin_lines files) ≡ pin_count files.nets
 pin_lines_counted files = length-flat_map (λ (net : NetEntry). net.pins) files.nets
 
-pub past_nodes : (files : Files) (n : ℕ) → IsFree files 7 → n ≡ length files.nodes → 2 ^ 20 < n → IsFirstFrom files 7 (Limit 1 n)
+pub past_nodes : (files : Records) (n : ℕ) → IsFree files 7 → n ≡ length files.nodes → 2 ^ 20 < n → IsFirstFrom files 7 (Limit 1 n)
 past_nodes files n tall e many = record { holds = inl (refl, e, many); before = free_one files 7 tall }
 
-pub past_pins : (files : Files) (n : ℕ) → IsFreeFrom files 7 9 → n ≡ pin_count files.nets → 2 ^ 24 < n → IsFirstFrom files 7 (Limit 2 n)
+pub past_pins : (files : Records) (n : ℕ) → IsFreeFrom files 7 9 → n ≡ pin_count files.nets → 2 ^ 24 < n → IsFirstFrom files 7 (Limit 2 n)
 past_pins files n free e many = record { holds = inr (inl (refl, e ∙ sym (pin_lines_counted files), many)); before = free }
 
-pub past_subrows : (files : Files) (n : ℕ) → IsFreeFrom files 7 10 → n ≡ length (strips files) → 2 ^ 16 < n → IsFirstFrom files 7 (Limit 3 n)
+pub past_subrows : (files : Records) (n : ℕ) → IsFreeFrom files 7 10 → n ≡ length (strips files) → 2 ^ 16 < n → IsFirstFrom files 7 (Limit 3 n)
 past_subrows files n free e many = record { holds = inr (inr (inl (refl, e, many))); before = free }
 
-pub few_nodes : (files : Files) (n : ℕ) → IsFree files 7 → n ≡ length files.nodes → n ≤ 2 ^ 20 → IsFreeFrom files 7 9
+pub few_nodes : (files : Records) (n : ℕ) → IsFree files 7 → n ≡ length files.nodes → n ≤ 2 ^ 20 → IsFreeFrom files 7 9
 few_nodes files n tall e few = let here : length files.nodes ≤ 2 ^ 20 = omega (arith, e, few) in free_more files 7 8 (free_one files 7 tall) here
 
-pub few_pins : (files : Files) (n : ℕ) → IsFreeFrom files 7 9 → n ≡ pin_count files.nets → n ≤ 2 ^ 24 → IsFreeFrom files 7 10
+pub few_pins : (files : Records) (n : ℕ) → IsFreeFrom files 7 9 → n ≡ pin_count files.nets → n ≤ 2 ^ 24 → IsFreeFrom files 7 10
 few_pins files n free e few =
     let same = pin_lines_counted files in
     let here : length (pin_lines files) ≤ 2 ^ 24 = omega (arith, same, e, few) in
     free_more files 7 9 free here
 
-pub few_subrows : (files : Files) (n : ℕ) → IsFreeFrom files 7 10 → n ≡ length (strips files) → n ≤ 2 ^ 16 → IsFreeFrom files 7 11
+pub few_subrows : (files : Records) (n : ℕ) → IsFreeFrom files 7 10 → n ≡ length (strips files) → n ≤ 2 ^ 16 → IsFreeFrom files 7 11
 few_subrows files n free e few = let here : length (strips files) ≤ 2 ^ 16 = omega (arith, e, few) in free_more files 7 10 free here
 
 -- as many values stand as lines
-pub nodes_counted : (files : Files) (nodes : List Node) → node_values nodes ≡ map (joined_node files) files.nodes → length nodes ≡ length files.nodes
+pub nodes_counted : (files : Records) (nodes : List Node) → node_values nodes ≡ map (joined_node files) files.nodes → length nodes ≡ length files.nodes
 nodes_counted files nodes e = sym (length-map nodes node_value) ∙ ap length e ∙ length-map files.nodes (joined_node files)
 
-pub subrows_counted : (files : Files) (kept : List Kept) → kept ≡ outlines files → length kept ≡ length (strips files)
+pub subrows_counted : (files : Records) (kept : List Kept) → kept ≡ outlines files → length kept ≡ length (strips files)
 subrows_counted files kept e = ap length e ∙ length-map (strips files) outline

@@ -10,7 +10,7 @@ use Rattle.std.proofs.lemmas.Bool.{cases_eq}
 use Rattle.std.proofs.lemmas.List.{map-append}
 use Rattle.book_design.specs.declared.strips.Strip.{Strip as Kept}
 use Rattle.book_design.specs.declared.fault.DesignFault.TheVariants.{RowsOverlap}
-use Rattle.book_design.specs.Files.{Files, Strip, row_at, strip_at, strip_of, strips_from, strips}
+use Rattle.book_design.specs.Records.{Records, Strip, row_at, strip_at, strip_of, strips_from, strips}
 use Rattle.book_design.specs.Faults.{IsFirst, IsMixedRow, IsOverlapping}
 use Rattle.book_design.specs.Steps.{IsFree, IsFreeFrom, IsFirstFrom}
 use Rattle.book_design.specs.Strips.{IsStripInRange, strip_value, strip_values}
@@ -78,24 +78,24 @@ strips_even height n (row ∷ rows) h =
     rw (map-append, map-append, row_even height n row row.subrows first, rest) refl
 
 -- where all rows are alike, a subrow is its outline and their height
-pub outlines_even : (files : Files) (height : ℤ) → height ≡ (row_at files 0).height → ((r : ℕ) → IsMixedRow files r → ⊥) → strip_values height (outlines files) ≡ strips files
+pub outlines_even : (files : Records) (height : ℤ) → height ≡ (row_at files 0).height → ((r : ℕ) → IsMixedRow files r → ⊥) → strip_values height (outlines files) ≡ strips files
 outlines_even files height e even = strips_even height 0 files.rows (λ k below. stable (row_at files k).height (row_at files 0).height (λ apart. even k (record { there = below; other = inl apart })) ∙ sym e)
 
 -- the first subrow that shares area is the first of the files
-pub overlap_first : (files : Files) (height : ℤ) (kept : List Kept) (s row : ℕ) → kept ≡ outlines files → height ≡ (row_at files 0).height → ((r : ℕ) → IsMixedRow files r → ⊥) → row ≡ (kept_at kept s).row → IsFirst (IsOverlapping (strip_values height kept)) s → IsFirstFrom files 6 (RowsOverlap row)
+pub overlap_first : (files : Records) (height : ℤ) (kept : List Kept) (s row : ℕ) → kept ≡ outlines files → height ≡ (row_at files 0).height → ((r : ℕ) → IsMixedRow files r → ⊥) → row ≡ (kept_at kept s).row → IsFirst (IsOverlapping (strip_values height kept)) s → IsFirstFrom files 6 (RowsOverlap row)
 overlap_first files height kept s row e level even told h =
     let same : strip_values height kept ≡ strips files = ap (strip_values height) e ∙ outlines_even files height level even in
     let first : IsFirst (IsOverlapping (strips files)) s = subst (λ (all : List Strip). IsFirst (IsOverlapping all) s) same h in
     let here : kept_at kept s ≡ outline (strip_at files s) = ap (λ (k : List Kept). kept_at k s) e ∙ kept_is files s first.here.there in
     first_of_rank files 6 (RowsOverlap row) refl (s, first, told ∙ ap (λ (k : Kept). k.row) here)
 
-pub overlap_none : (files : Files) (height : ℤ) (kept : List Kept) → kept ≡ outlines files → height ≡ (row_at files 0).height → ((r : ℕ) → IsMixedRow files r → ⊥) → ((s : ℕ) → IsOverlapping (strip_values height kept) s → ⊥) → IsFree files 6
+pub overlap_none : (files : Records) (height : ℤ) (kept : List Kept) → kept ≡ outlines files → height ≡ (row_at files 0).height → ((r : ℕ) → IsMixedRow files r → ⊥) → ((s : ℕ) → IsOverlapping (strip_values height kept) s → ⊥) → IsFree files 6
 overlap_none files height kept e level even none =
     let same : strip_values height kept ≡ strips files = ap (strip_values height) e ∙ outlines_even files height level even in
     subst (λ (all : List Strip). (s : ℕ) → IsOverlapping all s → ⊥) same none
 
 -- the height of alike rows, one of which has a subrow
-pub height_in_range : (files : Files) (height : ℤ) → AllByRecursion IsRowInRange files.rows → IsFreeFrom files 4 6 → height ≡ (row_at files 0).height → (pos 0 <ℤ height) × (height ≤ℤ pos (10 ^ 12))
+pub height_in_range : (files : Records) (height : ℤ) → AllByRecursion IsRowInRange files.rows → IsFreeFrom files 4 6 → height ≡ (row_at files 0).height → (pos 0 <ℤ height) × (height ≤ℤ pos (10 ^ 12))
 height_in_range files height ranges free e =
     let site : IsFree files 4 = free.free 4 (omega arith) (omega arith) in
     let first = first_in_range files.rows site.0 ranges site.1.0 in

@@ -20,7 +20,7 @@ use Rattle.book_design.specs.declared.fault.DesignFault.TheVariants.{UnknownName
 use Rattle.book_design.specs.declared.parts.Pin.{Pin}
 use Rattle.book_design.specs.declared.parts.Net.{Net}
 use Rattle.book_design.specs.declared.sources.Sources.{Sources}
-use Rattle.book_design.specs.Files.{Files, net_at, pin_at, pin_lines}
+use Rattle.book_design.specs.Records.{Records, net_at, pin_at, pin_lines}
 use Rattle.book_design.specs.Joined.{weight_of, number_of, joined_pin, place_at}
 use Rattle.book_design.specs.Nets.{net_value, net_values}
 use Rattle.book_design.specs.Faults.{IsFirst, IsUnknown, IsUnknownPin, IsUnknownPlace}
@@ -34,22 +34,22 @@ use Rattle.book_design.proofs.Looking.{apart}
 use Rattle.book_design.proofs.Ranks.{first_of_rank}
 
 -- where names are distinct, the last node of a name is the one of that name
-pub number_is : (files : Files) (name : List ℕ) (i : ℕ) → IsFree files 1 → IsLast (node_name files) (length files.nodes) name i → number_of files name ≡ i
+pub number_is : (files : Records) (name : List ℕ) (i : ℕ) → IsFree files 1 → IsLast (node_name files) (length files.nodes) name i → number_of files name ≡ i
 number_is files name i distinct h =
     position_or_len_is (λ node. bytes_eq node.name name) files.nodes i _ (let t = h.there in omega arith)
     (λ k below. apart (node_name files k) name (λ e. distinct i (record { there = h.there; earlier = k; before = below; same = e ∙ sym h.same })))
     (λ there. (bytes_eq-Decides (node_name files i) name).1 h.same)
 
 -- what holds of the first so many pins of a net, in the loop over them
-pub record ArePinned (files : Files) (lines : List PinLine) (j : ℕ) (made : List Pin) : Type 0 where
+pub record ArePinned (files : Records) (lines : List PinLine) (j : ℕ) (made : List Pin) : Type 0 where
   pub pins : made ≡ map (λ line. joined_pin files (pin_entry line)) (take j lines)
   pub known : (k : ℕ) → k < j → IsUnknown files (pin_in (pin_entries lines) k).node → ⊥
 
-pub known_more : (files : Files) (entries : List PinEntry) (j : ℕ) → ((k : ℕ) → k < j → IsUnknown files (pin_in entries k).node → ⊥) → (IsUnknown files (pin_in entries j).node → ⊥) → (k : ℕ) → k < j + 1 → IsUnknown files (pin_in entries k).node → ⊥
+pub known_more : (files : Records) (entries : List PinEntry) (j : ℕ) → ((k : ℕ) → k < j → IsUnknown files (pin_in entries k).node → ⊥) → (IsUnknown files (pin_in entries j).node → ⊥) → (k : ℕ) → k < j + 1 → IsUnknown files (pin_in entries k).node → ⊥
 known_more files entries j before here k below h = ⊎_elim (λ (e : k ≡ j). here (subst (λ (n : ℕ). IsUnknown files (pin_in entries n).node) e h)) (λ apart. before k (omega arith) h) (cases_eq k j)
 
 -- the pin whose name no node has is the net's first
-pub stops_at_pin : (files : Files) (entries : List PinEntry) (j : ℕ) (entry : PinEntry) (error : JoinError) → j < length entries → pin_in entries j ≡ entry → IsUnknown files entry.node → error ≡ errors.Fault (UnknownName Nets entry.line) → ((k : ℕ) → k < j → IsUnknown files (pin_in entries k).node → ⊥) → StopsInPins files entries error
+pub stops_at_pin : (files : Records) (entries : List PinEntry) (j : ℕ) (entry : PinEntry) (error : JoinError) → j < length entries → pin_in entries j ≡ entry → IsUnknown files entry.node → error ≡ errors.Fault (UnknownName Nets entry.line) → ((k : ℕ) → k < j → IsUnknown files (pin_in entries k).node → ⊥) → StopsInPins files entries error
 stops_at_pin files entries j entry error there same unknown e before =
     let P : PinEntry → Type 0 = λ p. IsUnknown files p.node in
     let first : IsFirst (IsUnknownIn files entries) j = record { here = (there, subst P (sym same) unknown); not_before = λ k below h. before k below h.1 } in
@@ -57,7 +57,7 @@ stops_at_pin files entries j entry error there same unknown e before =
     subst (StopsInPins files entries) (sym e) (j, first, told)
 
 -- the pins of the first so many nets
-abbrev pub pins_before : Files → ℕ → List PinEntry
+abbrev pub pins_before : Records → ℕ → List PinEntry
 pins_before files n = flat_map (λ net. net.pins) (take n files.nets)
 
 -- what holds of the first so many nets, in the loop over them
@@ -66,11 +66,11 @@ pub record AreNetted (sources : Sources) (n : ℕ) (made : List Net) : Type 0 wh
   pub known : (k : ℕ) → k < length (pins_before (files_of sources) n) → IsUnknown (files_of sources) (pin_at (files_of sources) k).node → ⊥
 
 -- a pin of a net among all pins
-pin_of_net : (files : Files) (n j : ℕ) → n < length files.nets → j < length (net_at files n).pins → pin_at files (length (pins_before files n) + j) ≡ pin_in (net_at files n).pins j
+pin_of_net : (files : Records) (n j : ℕ) → n < length files.nets → j < length (net_at files n).pins → pin_at files (length (pins_before files n) + j) ≡ pin_in (net_at files n).pins j
 pin_of_net files n j there below = get_or-flat_map (λ (net : NetEntry). net.pins) files.nets n j _ _ there below
 
 -- the net's first pin whose name no node has is the first of all
-stops_at_net : (files : Files) (n : ℕ) (fault : DesignFault) → n < length files.nets → ((k : ℕ) → k < length (pins_before files n) → IsUnknown files (pin_at files k).node → ⊥) → StopsInPins files (net_at files n).pins (errors.Fault fault) → IsFirstFrom files 2 fault
+stops_at_net : (files : Records) (n : ℕ) (fault : DesignFault) → n < length files.nets → ((k : ℕ) → k < length (pins_before files n) → IsUnknown files (pin_at files k).node → ⊥) → StopsInPins files (net_at files n).pins (errors.Fault fault) → IsFirstFrom files 2 fault
 stops_at_net files n fault there before h =
     let j = h.0 in
     let below = h.1.here.0 in
@@ -89,12 +89,12 @@ stops_at_net files n fault there before h =
     let told : fault ≡ UnknownName Nets (pin_at files (length (pins_before files n) + j)).line = h.2 ∙ ap (λ (p : PinEntry). UnknownName Nets p.line) (sym same) in
     subst (IsFirstFrom files 2) (sym told) (first_of_rank files 2 (UnknownName Nets (pin_at files (length (pins_before files n) + j)).line) refl (length (pins_before files n) + j, first, refl))
 
-pub stops_in_net : (files : Files) (n : ℕ) (entries : List PinEntry) (error : JoinError) → n < length files.nets → entries ≡ (net_at files n).pins → ((k : ℕ) → k < length (pins_before files n) → IsUnknown files (pin_at files k).node → ⊥) → StopsInPins files entries error → Stops files 2 error
+pub stops_in_net : (files : Records) (n : ℕ) (entries : List PinEntry) (error : JoinError) → n < length files.nets → entries ≡ (net_at files n).pins → ((k : ℕ) → k < length (pins_before files n) → IsUnknown files (pin_at files k).node → ⊥) → StopsInPins files entries error → Stops files 2 error
 stops_in_net files n entries (errors.Fault fault) there same before h = stops_at_net files n fault there before (subst (λ (ps : List PinEntry). StopsInPins files ps (errors.Fault fault)) same h)
 stops_in_net files n entries errors.Memory there same before h = tt
 
 -- the pins of one more net
-pub known_net : (files : Files) (n : ℕ) (entries : List PinEntry) → n < length files.nets → entries ≡ (net_at files n).pins → ((k : ℕ) → k < length (pins_before files n) → IsUnknown files (pin_at files k).node → ⊥) → AreKnown files entries → (k : ℕ) → k < length (pins_before files (n + 1)) → IsUnknown files (pin_at files k).node → ⊥
+pub known_net : (files : Records) (n : ℕ) (entries : List PinEntry) → n < length files.nets → entries ≡ (net_at files n).pins → ((k : ℕ) → k < length (pins_before files n) → IsUnknown files (pin_at files k).node → ⊥) → AreKnown files entries → (k : ℕ) → k < length (pins_before files (n + 1)) → IsUnknown files (pin_at files k).node → ⊥
 known_net files n entries there same before known k below bad =
     let f : NetEntry → List PinEntry = λ net. net.pins in
     let more : pins_before files (n + 1) ≡ pins_before files n ++ (net_at files n).pins = ap (flat_map f) (take_more files.nets n _ there) ∙ sym (flat_map_more f [] (take n files.nets) (net_at files n)) in
@@ -108,7 +108,7 @@ known_net files n entries there same before known k below bad =
     let P : PinEntry → Type 0 = λ p. IsUnknown files p.node in
     all i inside (subst P at bad)) (cases_lt k (length (pins_before files n)))
 
-pub known_whole : (files : Files) (n : ℕ) → length files.nets ≤ n → ((k : ℕ) → k < length (pins_before files n) → IsUnknown files (pin_at files k).node → ⊥) → (i : ℕ) → IsUnknownPin files i → ⊥
+pub known_whole : (files : Records) (n : ℕ) → length files.nets ≤ n → ((k : ℕ) → k < length (pins_before files n) → IsUnknown files (pin_at files k).node → ⊥) → (i : ℕ) → IsUnknownPin files i → ⊥
 known_whole files n all known i bad = known i (let e : pins_before files n ≡ pin_lines files = ap (flat_map (λ (net : NetEntry). net.pins)) (take_all n files.nets all) in rw e bad.0) bad.1
 
 -- a net and its weight, by the block that it is made from
@@ -132,14 +132,14 @@ net_made sources n block weights d weight pins entries there e same told read ma
     here ∙ ap (λ (b : NetBlock). pinned_net (files_of sources) (net_entry b)) e
 
 -- the first line of the placement file whose name no node has
-pub unknown_place : (files : Files) (i : ℕ) (entry : PlaceEntry) (numbers : BTreeMap (Bor (List ℕ)) ℕ) (found : Option ℕ) → i < length files.places → place_at files i ≡ entry → found ≡ number_in numbers entry.name → is_some found ≡ false → AreNumbers (node_name files) (length files.nodes) numbers → ((j : ℕ) → IsUnknownPin files j → ⊥) → ((k : ℕ) → k < i → IsUnknownPlace files k → ⊥) → IsFirstFrom files 2 (UnknownName Pl entry.line)
+pub unknown_place : (files : Records) (i : ℕ) (entry : PlaceEntry) (numbers : BTreeMap (Bor (List ℕ)) ℕ) (found : Option ℕ) → i < length files.places → place_at files i ≡ entry → found ≡ number_in numbers entry.name → is_some found ≡ false → AreNumbers (node_name files) (length files.nodes) numbers → ((j : ℕ) → IsUnknownPin files j → ⊥) → ((k : ℕ) → k < i → IsUnknownPlace files k → ⊥) → IsFirstFrom files 2 (UnknownName Pl entry.line)
 unknown_place files i entry numbers (Some j) there same e none h pins before = absurd cc
 unknown_place files i entry numbers None there same e none h pins before =
     let P : PlaceEntry → Type 0 = λ p. IsUnknown files p.name in
     let unknown : IsUnknown files entry.name = subst (IsLastNumber (node_name files) (length files.nodes) entry.name) (sym e) (h.last entry.name) in
     first_of_rank files 2 (UnknownName Pl entry.line) refl (pins, (i, record { here = (there, subst P (sym same) unknown); not_before = before }, ap (λ (p : PlaceEntry). p.line) (sym same)))
 
-pub known_place : (files : Files) (i : ℕ) (entry : PlaceEntry) (numbers : BTreeMap (Bor (List ℕ)) ℕ) (found : Option ℕ) → place_at files i ≡ entry → found ≡ number_in numbers entry.name → is_some found ≡ true → AreNumbers (node_name files) (length files.nodes) numbers → ((k : ℕ) → k < i → IsUnknownPlace files k → ⊥) → (k : ℕ) → k < i + 1 → IsUnknownPlace files k → ⊥
+pub known_place : (files : Records) (i : ℕ) (entry : PlaceEntry) (numbers : BTreeMap (Bor (List ℕ)) ℕ) (found : Option ℕ) → place_at files i ≡ entry → found ≡ number_in numbers entry.name → is_some found ≡ true → AreNumbers (node_name files) (length files.nodes) numbers → ((k : ℕ) → k < i → IsUnknownPlace files k → ⊥) → (k : ℕ) → k < i + 1 → IsUnknownPlace files k → ⊥
 known_place files i entry numbers None same e some h before k below bad = absurd cc
 known_place files i entry numbers (Some j) same e some h before k below bad = ⊎_elim (λ (here : k ≡ i).
     let P : PlaceEntry → Type 0 = λ p. IsUnknown files p.name in

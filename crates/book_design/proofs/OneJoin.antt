@@ -7,7 +7,7 @@ use Rattle.book_files.specs.declared.records.FileKind.TheVariants.{Aux, Nodes, N
 use Rattle.book_design.specs.declared.fault.DesignFault.{DesignFault}
 use Rattle.book_design.specs.declared.fault.DesignFault.TheVariants.{DuplicateName, UnknownName, NoPosition, NoRows, MixedRows, RowsOverlap, TallCell, Limit}
 use Rattle.book_design.specs.declared.parts.Core.{Core}
-use Rattle.book_design.specs.Files.{Files, Strip, node_at, pin_at, strips, strip_at}
+use Rattle.book_design.specs.Records.{Records, Strip, node_at, pin_at, strips, strip_at}
 use Rattle.book_design.specs.Faults.{IsFirst, HasEarlierName, IsUnknownPin, IsUnknownPlace, IsWithoutPlace, IsMixedRow, IsOverlapping, IsTall, HasManySites, HasBadWeight, IsPastEnd, IsPastLimit, IsFault, rank}
 use Rattle.book_design.specs.Joined.{place_at, HasSite, HasEnd, IsCore, Joins}
 use Rattle.book_design.specs.Values.{DesignValue}
@@ -22,7 +22,7 @@ one_first : (Holds : ℕ → Type 0) (i j : ℕ) → IsFirst Holds i → IsFirst
 one_first Holds i j x y = omega (arith, at_most Holds i j x y (cases_lt j i), at_most Holds j i y x (cases_lt i j))
 
 -- the kinds of the limit begin with 1
-kind_some : (files : Files) (kind number : ℕ) → IsPastLimit files kind number → 1 ≤ kind
+kind_some : (files : Records) (kind number : ℕ) → IsPastLimit files kind number → 1 ≤ kind
 kind_some files kind number (inl x) = omega (arith, x.0)
 kind_some files kind number (inr (inl x)) = omega (arith, x.0)
 kind_some files kind number (inr (inr (inl x))) = omega (arith, x.0)
@@ -30,10 +30,10 @@ kind_some files kind number (inr (inr (inr (inl x)))) = omega (arith, x.0)
 kind_some files kind number (inr (inr (inr (inr (inl x))))) = omega (arith, x.0)
 kind_some files kind number (inr (inr (inr (inr (inr x))))) = omega (arith, x.0)
 
-many_sites : (files : Files) (a b : ℕ) → ((s : ℕ) × IsFirst (HasManySites files) s × (a ≡ (strip_at files s).sites)) → ((s : ℕ) × IsFirst (HasManySites files) s × (b ≡ (strip_at files s).sites)) → a ≡ b
+many_sites : (files : Records) (a b : ℕ) → ((s : ℕ) × IsFirst (HasManySites files) s × (a ≡ (strip_at files s).sites)) → ((s : ℕ) × IsFirst (HasManySites files) s × (b ≡ (strip_at files s).sites)) → a ≡ b
 many_sites files a b x y = x.2 ∙ (ap (λ s. (strip_at files s).sites) (one_first (HasManySites files) x.0 y.0 x.1 y.1) ∙ sym y.2)
 
-one_number : (files : Files) (kind a b : ℕ) → IsPastLimit files kind a → IsPastLimit files kind b → a ≡ b
+one_number : (files : Records) (kind a b : ℕ) → IsPastLimit files kind a → IsPastLimit files kind b → a ≡ b
 one_number files kind a b (inl x) (inl y) = x.1 ∙ sym y.1
 one_number files kind a b (inl x) (inr (inl y)) = absurd (omega (arith, x.0, y.0))
 one_number files kind a b (inl x) (inr (inr (inl y))) = absurd (omega (arith, x.0, y.0))
@@ -71,13 +71,13 @@ one_number files kind a b (inr (inr (inr (inr (inr x))))) (inr (inr (inr (inl y)
 one_number files kind a b (inr (inr (inr (inr (inr x))))) (inr (inr (inr (inr (inl y))))) = absurd (omega (arith, x.0, y.0))
 one_number files kind a b (inr (inr (inr (inr (inr x))))) (inr (inr (inr (inr (inr y))))) = one_first (IsPastEnd files) a b x.1 y.1
 
-same_limit : (files : Files) (kinda kindb numbera numberb : ℕ) → kinda ≡ kindb → IsPastLimit files kinda numbera → IsPastLimit files kindb numberb → Limit kinda numbera ≡ Limit kindb numberb
+same_limit : (files : Records) (kinda kindb numbera numberb : ℕ) → kinda ≡ kindb → IsPastLimit files kinda numbera → IsPastLimit files kindb numberb → Limit kinda numbera ≡ Limit kindb numberb
 same_limit files kinda kindb numbera numberb e x y =
     let P : ℕ → Type 0 = λ k. IsPastLimit files k numberb in
     let n = one_number files kinda numbera numberb x (subst P (sym e) y) in
     ap (λ k. Limit k numbera) e ∙ ap (λ m. Limit kindb m) n
 
-same_unknown : (files : Files) (filea fileb : FileKind) (linea lineb : ℕ) → IsFault files (UnknownName filea linea) → IsFault files (UnknownName fileb lineb) → UnknownName filea linea ≡ UnknownName fileb lineb
+same_unknown : (files : Records) (filea fileb : FileKind) (linea lineb : ℕ) → IsFault files (UnknownName filea linea) → IsFault files (UnknownName fileb lineb) → UnknownName filea linea ≡ UnknownName fileb lineb
 same_unknown files Aux Aux linea lineb x y = absurd x
 same_unknown files Aux Nodes linea lineb x y = absurd x
 same_unknown files Aux Nets linea lineb x y = absurd x
@@ -115,7 +115,7 @@ same_unknown files Scl Wts linea lineb x y = absurd x
 same_unknown files Scl Pl linea lineb x y = absurd x
 same_unknown files Scl Scl linea lineb x y = absurd x
 
-same : (files : Files) (a b : DesignFault) → IsFault files a → IsFault files b → rank a ≡ rank b → a ≡ b
+same : (files : Records) (a b : DesignFault) → IsFault files a → IsFault files b → rank a ≡ rank b → a ≡ b
 same files (DuplicateName linea) (DuplicateName lineb) x y e = ap (λ l. DuplicateName l) (x.2 ∙ (ap (λ i. (node_at files i).line) (one_first (HasEarlierName files) x.0 y.0 x.1 y.1) ∙ sym y.2))
 same files (DuplicateName linea) (UnknownName fileb lineb) x y e = absurd (omega (arith, e))
 same files (DuplicateName linea) (NoPosition nodeb) x y e = absurd (omega (arith, e))
@@ -182,21 +182,21 @@ same files (Limit kinda numbera) (TallCell nodeb) x y e = absurd (let some = kin
 same files (Limit kinda numbera) (Limit kindb numberb) x y e = same_limit files kinda kindb numbera numberb (let k : kinda ≡ kindb = omega (arith, e) in k) x y
 
 -- an end of the core that all strips keep to and one has
-one_low : (files : Files) (end : Strip → ℤ) (a b : ℤ) → ((s : ℕ) → HasSite files s → a ≤ℤ end (strip_at files s)) → HasEnd files end a
+one_low : (files : Records) (end : Strip → ℤ) (a b : ℤ) → ((s : ℕ) → HasSite files s → a ≤ℤ end (strip_at files s)) → HasEnd files end a
     → ((s : ℕ) → HasSite files s → b ≤ℤ end (strip_at files s)) → HasEnd files end b → a ≡ b
 one_low files end a b all_a at_a all_b at_b =
     let to_b = all_a at_b.0 at_b.1 in
     let to_a = all_b at_a.0 at_a.1 in
     omega (arith, ints, to_a, to_b, at_a.2, at_b.2)
 
-one_high : (files : Files) (end : Strip → ℤ) (a b : ℤ) → ((s : ℕ) → HasSite files s → end (strip_at files s) ≤ℤ a) → HasEnd files end a
+one_high : (files : Records) (end : Strip → ℤ) (a b : ℤ) → ((s : ℕ) → HasSite files s → end (strip_at files s) ≤ℤ a) → HasEnd files end a
     → ((s : ℕ) → HasSite files s → end (strip_at files s) ≤ℤ b) → HasEnd files end b → a ≡ b
 one_high files end a b all_a at_a all_b at_b =
     let to_b = all_a at_b.0 at_b.1 in
     let to_a = all_b at_a.0 at_a.1 in
     omega (arith, ints, to_a, to_b, at_a.2, at_b.2)
 
-one_core : (files : Files) (a b : Core) → IsCore files a → IsCore files b → a ≡ b
+one_core : (files : Records) (a b : Core) → IsCore files a → IsCore files b → a ≡ b
 one_core files a b x y =
     let make : ℤ → ℤ → ℤ → ℤ → Core = λ xlo xhi ylo yhi. record { xlo = xlo; xhi = xhi; ylo = ylo; yhi = yhi } in
     ap (λ v. make v a.xhi a.ylo a.yhi) (one_low files (λ strip. strip.left) a.xlo b.xlo x.left x.at_left y.left y.at_left)
@@ -204,7 +204,7 @@ one_core files a b x y =
     ∙ (ap (λ v. make b.xlo b.xhi v a.yhi) (one_low files (λ strip. strip.lower) a.ylo b.ylo x.lower x.at_lower y.lower y.at_lower)
     ∙ ap (λ v. make b.xlo b.xhi b.ylo v) (one_high files (λ strip. strip.upper) a.yhi b.yhi x.upper x.at_upper y.upper y.at_upper)))
 
-one_design : (files : Files) (a b : DesignValue) → Joins files a → Joins files b → a ≡ b
+one_design : (files : Records) (a b : DesignValue) → Joins files a → Joins files b → a ≡ b
 one_design files a b x y =
     let e1 = x.nodes ∙ sym y.nodes in
     let e2 = x.nets ∙ sym y.nets in
@@ -219,7 +219,7 @@ one_design files a b x y =
     ∙ (ap (λ v. record { nodes = b.nodes; nets = b.nets; subrows = b.subrows; core = b.core; pitch = v; row_height = a.row_height }) e5
     ∙ ap (λ v. record { nodes = b.nodes; nets = b.nets; subrows = b.subrows; core = b.core; pitch = b.pitch; row_height = v }) e6))))
 
-pub one_join : (files : Files) → HasOneJoin files
+pub one_join : (files : Records) → HasOneJoin files
 one_join files = record {
   one_design = λ a b x y. one_design files a b x.joins y.joins;
   one_fault = λ a b x y. same files a b x.holds y.holds (let e : rank a ≡ rank b = omega (arith, x.first b y.holds, y.first a x.holds) in e);

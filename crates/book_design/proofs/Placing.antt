@@ -12,7 +12,7 @@ use Rattle.book_files.specs.Entries.{NodeEntry, PlaceEntry, WeightEntry, node_en
 use Rattle.book_design.specs.declared.fault.DesignFault.TheVariants.{NoPosition}
 use Rattle.book_design.specs.declared.parts.Node.{Node}
 use Rattle.book_design.specs.declared.sources.Sources.{Sources}
-use Rattle.book_design.specs.Files.{Files, last_of, last_place, node_at, weight_lines}
+use Rattle.book_design.specs.Records.{Records, last_of, last_place, node_at, weight_lines}
 use Rattle.book_design.specs.Joined.{place_at, joined_node}
 use Rattle.book_design.specs.Values.{node_values}
 use Rattle.book_design.specs.Faults.{IsWithoutPlace}
@@ -22,7 +22,7 @@ use Rattle.book_design.specs.Sources.{files_of, place_name, entry_name, last_ent
 use Rattle.book_design.proofs.Looking.{last_by_number, apart, filter-none}
 use Rattle.book_design.proofs.Ranks.{first_of_rank}
 
-pub last_place_found : (files : Files) (numbers : BTreeMap (Bor (List ℕ)) ℕ) (name : List ℕ) (found : Option ℕ) → found ≡ number_in numbers name → AreNumbers (place_name files) (length files.places) numbers → last_place files name ≡ option_map (place_at files) found
+pub last_place_found : (files : Records) (numbers : BTreeMap (Bor (List ℕ)) ℕ) (name : List ℕ) (found : Option ℕ) → found ≡ number_in numbers name → AreNumbers (place_name files) (length files.places) numbers → last_place files name ≡ option_map (place_at files) found
 last_place_found files numbers name found e h = last_by_number (λ (p : PlaceEntry). p.name) files.places _ name found (rw e (h.last name))
 
 pub found_last : (name_at : ℕ → List ℕ) (count : ℕ) (numbers : BTreeMap (Bor (List ℕ)) ℕ) (name : List ℕ) (i : ℕ) → Some i ≡ number_in numbers name → AreNumbers name_at count numbers → IsLast name_at count name i
@@ -41,13 +41,13 @@ none_passes p [] d e k below = absurd (omega arith)
 none_passes p (x ∷ xs) d e zero below = (fails_first (p x) x (filter p xs) e).0
 none_passes p (x ∷ xs) d e (suc k) below = none_passes p xs d (fails_first (p x) x (filter p xs) e).1 k (omega arith)
 
-absent : (files : Files) (name : List ℕ) → last_place files name ≡ None → (k : ℕ) → k < length files.places → (place_at files k).name ≢ name
+absent : (files : Records) (name : List ℕ) → last_place files name ≡ None → (k : ℕ) → k < length files.places → (place_at files k).name ≢ name
 absent files name e k below same =
     let no : bytes_eq (place_at files k).name name ≡ false = none_passes (λ place. bytes_eq place.name name) files.places _ e k below in
     let yes : bytes_eq (place_at files k).name name ≡ true = (bytes_eq-Decides (place_at files k).name name).1 same in
     absurd cc
 
-no_last : (files : Files) (name : List ℕ) → ((k : ℕ) → k < length files.places → (place_at files k).name ≢ name) → last_place files name ≡ None
+no_last : (files : Records) (name : List ℕ) → ((k : ℕ) → k < length files.places → (place_at files k).name ≢ name) → last_place files name ≡ None
 no_last files name h = ap (last_of {A = PlaceEntry}) (filter-none (λ place. bytes_eq place.name name) files.places _ (λ k below. apart (place_at files k).name name (h k below)))
 
 -- the line that a read past the end gives
@@ -60,7 +60,7 @@ pub record ArePlaced (sources : Sources) (i : ℕ) (made : List Node) : Type 0 w
   pub positioned : (j : ℕ) → j < i → IsWithoutPlace (files_of sources) j → ⊥
 
 -- a terminal whose name the last place isn't found of
-pub without_place : (files : Files) (i : ℕ) (node : NodeEntry) {X : Type 0} (view : X → PlaceEntry) (place : Option X) → i < length files.nodes → node_at files i ≡ node → option_map view place ≡ last_place files node.name → node.fixed ≡ true → is_some place ≡ false → ((j : ℕ) → j < i → IsWithoutPlace files j → ⊥) → IsFirstFrom files 3 (NoPosition i)
+pub without_place : (files : Records) (i : ℕ) (node : NodeEntry) {X : Type 0} (view : X → PlaceEntry) (place : Option X) → i < length files.nodes → node_at files i ≡ node → option_map view place ≡ last_place files node.name → node.fixed ≡ true → is_some place ≡ false → ((j : ℕ) → j < i → IsWithoutPlace files j → ⊥) → IsFirstFrom files 3 (NoPosition i)
 without_place files i node view (Some place) there same e fixed none before = absurd cc
 without_place files i node view None there same e fixed none before = first_of_rank files 3 (NoPosition i) refl (record {
   here = record {
@@ -72,11 +72,11 @@ without_place files i node view None there same e fixed none before = first_of_r
 })
 
 -- the node isn't without a place
-pub with_place : (files : Files) (i : ℕ) (node : NodeEntry) {X : Type 0} (view : X → PlaceEntry) (place : Option X) → node_at files i ≡ node → option_map view place ≡ last_place files node.name → is_some place ≡ true → IsWithoutPlace files i → ⊥
+pub with_place : (files : Records) (i : ℕ) (node : NodeEntry) {X : Type 0} (view : X → PlaceEntry) (place : Option X) → node_at files i ≡ node → option_map view place ≡ last_place files node.name → is_some place ≡ true → IsWithoutPlace files i → ⊥
 with_place files i node view (Some place) same e some h = let none : last_place files node.name ≡ None = no_last files node.name (rw same at h.absent) in absurd cc
 with_place files i node view None same e some h = absurd cc
 
-pub positioned_more : (files : Files) (i : ℕ) → ((j : ℕ) → j < i → IsWithoutPlace files j → ⊥) → (IsWithoutPlace files i → ⊥) → (j : ℕ) → j < i + 1 → IsWithoutPlace files j → ⊥
+pub positioned_more : (files : Records) (i : ℕ) → ((j : ℕ) → j < i → IsWithoutPlace files j → ⊥) → (IsWithoutPlace files i → ⊥) → (j : ℕ) → j < i + 1 → IsWithoutPlace files j → ⊥
 positioned_more files i before here j below h = ⊎_elim (λ (e : j ≡ i). here (subst (IsWithoutPlace files) e h)) (λ apart. before j (omega arith) h) (cases_eq j i)
 
 -- the lines of the weights file

@@ -6,7 +6,7 @@ use Rattle.std.specs.List.{AllByRecursion}
 use Rattle.book_files.specs.Entries.{RowEntry, SubrowEntry}
 use Rattle.book_files.specs.Ranges.{IsRowInRange, IsSubrowInRange}
 use Rattle.book_design.specs.declared.strips.Strip.{Strip as Kept}
-use Rattle.book_design.specs.Files.{Files, Strip, strips_from, strip_of, strip_in, row_at}
+use Rattle.book_design.specs.Records.{Records, Strip, strips_from, strip_of, strip_in, row_at}
 use Rattle.book_design.specs.Parts.{outline}
 use Rattle.book_design.specs.Strips.{strip_value, strip_values, IsStripInRange}
 use Rattle.book_design.proofs.RowsSums.{width_fits}
@@ -19,7 +19,7 @@ first_in_range : (rows : List RowEntry) (d : RowEntry) → AllByRecursion IsRowI
 first_in_range [] d h below = absurd (omega arith)
 first_in_range (row ∷ rows) d h below = h.0
 
-pub row_in_range : (files : Files) → AllByRecursion IsRowInRange files.rows → 0 < length files.rows → IsRowInRange (row_at files 0)
+pub row_in_range : (files : Records) → AllByRecursion IsRowInRange files.rows → 0 < length files.rows → IsRowInRange (row_at files 0)
 row_in_range files h below = first_in_range files.rows _ h below
 
 strip_in_range : (r : ℕ) (row : RowEntry) (subrow : SubrowEntry) → IsRowInRange row → IsSubrowInRange subrow → IsStripInRange (outline (strip_of r row subrow))

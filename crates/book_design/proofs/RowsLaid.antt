@@ -5,7 +5,7 @@ use Rattle.std.proofs.lemmas.List.{drop_all, map-append, map_more, take_all}
 use Rattle.std.specs.List.{AllByRecursion}
 use Rattle.book_files.specs.Entries.{RowEntry}
 use Rattle.book_design.specs.declared.strips.Strip.{Strip as Kept}
-use Rattle.book_design.specs.Files.{strips_from, strip_of}
+use Rattle.book_design.specs.Records.{strips_from, strip_of}
 use Rattle.book_design.specs.Parts.{outline}
 use Rattle.book_design.specs.RowParts.{row_outlines}
 use Rattle.book_design.proofs.Building.{map_map}

@@ -5,7 +5,7 @@ use Rattle.std.proofs.lemmas.Bool.{cases_lt}
 use Rattle.std.proofs.lemmas.List.{get_or_default}
 use Rattle.book_files.specs.Entries.{RowEntry, SubrowEntry}
 use Rattle.book_design.specs.declared.strips.Strip.{Strip as Kept}
-use Rattle.book_design.specs.Files.{Files, Strip, strips, strips_from, strip_of, strip_in, strip_at}
+use Rattle.book_design.specs.Records.{Records, Strip, strips, strips_from, strip_of, strip_in, strip_at}
 use Rattle.book_design.specs.Faults.{IsFirst, IsPastEnd}
 use Rattle.book_design.specs.Parts.{outline, outlines, kept_at}
 use Rattle.book_design.specs.Steps.{IsFree}
@@ -48,19 +48,19 @@ ordered r high (row ∷ rows) few =
     record { after = λ s there. let later = rest.after s there in omega (arith, later); below = rest.below; order = rest.order } in
     ordered_row r high row row.subrows (strips_from (1 + r) rows) (omega (arith, few)) more
 
-wide_there : (files : Files) (kept : List Kept) (s : ℕ) → kept ≡ outlines files → s < length kept → s < length (strips files)
+wide_there : (files : Records) (kept : List Kept) (s : ℕ) → kept ≡ outlines files → s < length kept → s < length (strips files)
 wide_there files kept s e there =
     let n = length-outlines files in
     let same : length kept ≡ length (outlines files) = ap length e in
     omega (arith, there)
 
-kept_same : (files : Files) (kept : List Kept) (s : ℕ) → kept ≡ outlines files → s < length (strips files) → kept_at kept s ≡ outline (strip_at files s)
+kept_same : (files : Records) (kept : List Kept) (s : ℕ) → kept ≡ outlines files → s < length (strips files) → kept_at kept s ≡ outline (strip_at files s)
 kept_same files kept s e there = ap (λ (ks : List Kept). kept_at ks s) e ∙ kept_is files s there
 
-high_past : (files : Files) (r : ℕ) → IsHigh files r → IsPastEnd files r
+high_past : (files : Records) (r : ℕ) → IsHigh files r → IsPastEnd files r
 high_past files r h = record { there = h.0; past = inl h.1 }
 
-wide_past : (files : Files) (kept : List Kept) (s : ℕ) → kept ≡ outlines files → IsWide kept s → IsPastEnd files (kept_at kept s).row
+wide_past : (files : Records) (kept : List Kept) (s : ℕ) → kept ≡ outlines files → IsWide kept s → IsPastEnd files (kept_at kept s).row
 wide_past files kept s e h =
     let there = wide_there files kept s e h.0 in
     let same = kept_same files kept s e there in
@@ -71,7 +71,7 @@ wide_past files kept s e h =
     record { there = omega (arith, row, less); past = inr (s, there, sym row, right) }
 
 -- a row past the end is too high, or has a subrow that is too wide
-past_by : (files : Files) (kept : List Kept) (r : ℕ) → kept ≡ outlines files → IsPastEnd files r → IsHigh files r ⊎ ((s : ℕ) × IsWide kept s × ((kept_at kept s).row ≡ r))
+past_by : (files : Records) (kept : List Kept) (r : ℕ) → kept ≡ outlines files → IsPastEnd files r → IsHigh files r ⊎ ((s : ℕ) × IsWide kept s × ((kept_at kept s).row ≡ r))
 past_by files kept r e h = elim h.past [
   | inl high ↦ inl (h.there, high)
   | inr wide ↦
@@ -84,7 +84,7 @@ past_by files kept r e h = elim h.past [
 ]
 
 -- no subrow of a row before that of the first too wide one is too wide
-none_before : (files : Files) (kept : List Kept) (s t : ℕ) → kept ≡ outlines files → IsFirst (IsWide kept) s → IsWide kept t → (kept_at kept s).row ≤ (kept_at kept t).row
+none_before : (files : Records) (kept : List Kept) (s t : ℕ) → kept ≡ outlines files → IsFirst (IsWide kept) s → IsWide kept t → (kept_at kept s).row ≤ (kept_at kept t).row
 none_before files kept s t e first h = ⊎_elim (λ before. absurd (first.not_before t before h)) (λ (after : s ≤ t).
     let s_there = wide_there files kept s e first.here.0 in
     let t_there = wide_there files kept t e h.0 in
@@ -93,10 +93,10 @@ none_before files kept s t e first h = ⊎_elim (λ before. absurd (first.not_be
     let le = (ordered 0 (length files.rows) files.rows (omega arith)).order s t after t_there in
     omega (arith, s_row, t_row, le)) (cases_lt t s)
 
-pub none_past : (files : Files) (kept : List Kept) → kept ≡ outlines files → ((r : ℕ) → IsHigh files r → ⊥) → ((s : ℕ) → IsWide kept s → ⊥) → IsFree files 13
+pub none_past : (files : Records) (kept : List Kept) → kept ≡ outlines files → ((r : ℕ) → IsHigh files r → ⊥) → ((s : ℕ) → IsWide kept s → ⊥) → IsFree files 13
 none_past files kept e low narrow = λ r h. ⊎_elim (λ high. low r high) (λ wide. narrow wide.0 wide.1) (past_by files kept r e h)
 
-pub high_first : (files : Files) (kept : List Kept) (r : ℕ) → kept ≡ outlines files → IsFirst (IsHigh files) r → ((s : ℕ) → IsWide kept s → ⊥) → IsFirst (IsPastEnd files) r
+pub high_first : (files : Records) (kept : List Kept) (r : ℕ) → kept ≡ outlines files → IsFirst (IsHigh files) r → ((s : ℕ) → IsWide kept s → ⊥) → IsFirst (IsPastEnd files) r
 high_first files kept r e first narrow = record {
   here = high_past files r first.here;
   not_before = λ j before h. ⊎_elim (λ high. first.not_before j before high) (λ wide. narrow wide.0 wide.1) (past_by files kept j e h);
@@ -105,7 +105,7 @@ high_first files kept r e first narrow = record {
 row_same : (kept : List Kept) (s : ℕ) (d : Kept) → s < length kept → (kept_at kept s).row ≡ (get_or kept s d).row
 row_same kept s d there = ap (λ (k : Kept). k.row) (get_or_default kept s _ d there)
 
-pub wide_first : (files : Files) (kept : List Kept) (s : ℕ) (d : Kept) → kept ≡ outlines files → ((r : ℕ) → IsHigh files r → ⊥) → IsFirst (IsWide kept) s
+pub wide_first : (files : Records) (kept : List Kept) (s : ℕ) (d : Kept) → kept ≡ outlines files → ((r : ℕ) → IsHigh files r → ⊥) → IsFirst (IsWide kept) s
     → IsFirst (IsPastEnd files) (get_or kept s d).row
 wide_first files kept s d e low first =
     let same = row_same kept s d first.here.0 in
@@ -116,7 +116,7 @@ wide_first files kept s d e low first =
     }
 
 -- the smaller of both
-pub both_first : (files : Files) (kept : List Kept) (r s least : ℕ) (d : Kept) → kept ≡ outlines files → IsFirst (IsHigh files) r → IsFirst (IsWide kept) s
+pub both_first : (files : Records) (kept : List Kept) (r s least : ℕ) (d : Kept) → kept ≡ outlines files → IsFirst (IsHigh files) r → IsFirst (IsWide kept) s
     → least ≡ min r (get_or kept s d).row → IsFirst (IsPastEnd files) least
 both_first files kept r s least d e high_one wide_one is =
     let same = row_same kept s d wide_one.here.0 in

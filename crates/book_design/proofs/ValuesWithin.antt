@@ -6,7 +6,7 @@ use Rattle.std.proofs.lemmas.Bool.Decides.{leb_tells, Decides-eqb}
 use Rattle.std.proofs.lemmas.List.{get_or-map, get_or_default, length-map}
 use Rattle.book_design.specs.declared.strips.Strip.{Strip as Kept}
 use Rattle.book_design.specs.declared.fault.DesignFault.TheVariants.{Limit}
-use Rattle.book_design.specs.Files.{Files, net_at, strips, strip_at}
+use Rattle.book_design.specs.Records.{Records, net_at, strips, strip_at}
 use Rattle.book_design.specs.Joined.{weight_of}
 use Rattle.book_design.specs.Faults.{IsFirst, HasManySites, IsWholeWeight, HasBadWeight, IsPastEnd}
 use Rattle.book_design.specs.Parts.{outlines, kept_at, whole_weight, whole_weights}
@@ -15,7 +15,7 @@ use Rattle.book_design.specs.ValueLimits.{IsCrowded, HasNoWeight, weight_in}
 use Rattle.book_design.proofs.Ranks.{first_of_rank, free_one, free_more}
 use Rattle.book_design.proofs.Rowing.{length-outlines, sites_are}
 
-many_sites : (files : Files) (kept : List Kept) (s : ℕ) → kept ≡ outlines files → IsCrowded kept s → HasManySites files s
+many_sites : (files : Records) (kept : List Kept) (s : ℕ) → kept ≡ outlines files → IsCrowded kept s → HasManySites files s
 many_sites files kept s e h =
     let P : List Kept → Type 0 = λ ks. IsCrowded ks s in
     let here = subst P e h in
@@ -24,7 +24,7 @@ many_sites files kept s e h =
     let same = sites_are files s there in
     (there, omega (arith, here.1))
 
-crowded : (files : Files) (kept : List Kept) (s : ℕ) → kept ≡ outlines files → HasManySites files s → IsCrowded kept s
+crowded : (files : Records) (kept : List Kept) (s : ℕ) → kept ≡ outlines files → HasManySites files s → IsCrowded kept s
 crowded files kept s e h =
     let P : List Kept → Type 0 = λ ks. IsCrowded ks s in
     let n = length-outlines files in
@@ -33,10 +33,10 @@ crowded files kept s e h =
     let here : IsCrowded (outlines files) s = (there, omega (arith, h.1)) in
     subst P (sym e) here
 
-pub none_crowded : (files : Files) (kept : List Kept) → kept ≡ outlines files → ((s : ℕ) → IsCrowded kept s → ⊥) → IsFree files 11
+pub none_crowded : (files : Records) (kept : List Kept) → kept ≡ outlines files → ((s : ℕ) → IsCrowded kept s → ⊥) → IsFree files 11
 none_crowded files kept e none = λ s h. none s (crowded files kept s e h)
 
-pub first_crowded : (files : Files) (kept : List Kept) (s : ℕ) (d : Kept) → kept ≡ outlines files → IsFirst (IsCrowded kept) s
+pub first_crowded : (files : Records) (kept : List Kept) (s : ℕ) (d : Kept) → kept ≡ outlines files → IsFirst (IsCrowded kept) s
     → IsFirstFrom files 11 (Limit 4 (get_or kept s d).sites)
 first_crowded files kept s d e h =
     let many = many_sites files kept s e h.here in
@@ -89,13 +89,13 @@ whole_some : (weight : ℤ) → IsWholeWeight weight → whole_weight weight ≡
 whole_some (pos n) h none = let some = some_case n h.0 (omega (arith, ints, h.2)) h.1 in absurd cc
 whole_some (negsuc n) h none = omega (arith, ints, h.2)
 
-length-weights : (files : Files) → length (whole_weights files) ≡ length files.nets
+length-weights : (files : Records) → length (whole_weights files) ≡ length files.nets
 length-weights files = length-map files.nets (λ net. whole_weight (weight_of files net))
 
-weight_is : (files : Files) (n : ℕ) → n < length files.nets → weight_in (whole_weights files) n ≡ whole_weight (weight_of files (net_at files n))
+weight_is : (files : Records) (n : ℕ) → n < length files.nets → weight_in (whole_weights files) n ≡ whole_weight (weight_of files (net_at files n))
 weight_is files n there = get_or-map (λ net. whole_weight (weight_of files net)) files.nets n _ _ there
 
-bad_weight : (files : Files) (weights : List (Option ℕ)) (n : ℕ) → weights ≡ whole_weights files → HasNoWeight weights n → HasBadWeight files n
+bad_weight : (files : Records) (weights : List (Option ℕ)) (n : ℕ) → weights ≡ whole_weights files → HasNoWeight weights n → HasBadWeight files n
 bad_weight files weights n e h =
     let P : List (Option ℕ) → Type 0 = λ ws. HasNoWeight ws n in
     let here = subst P e h in
@@ -103,7 +103,7 @@ bad_weight files weights n e h =
     let there : n < length files.nets = omega (arith, here.0) in
     (there, λ whole. whole_some (weight_of files (net_at files n)) whole (sym (weight_is files n there) ∙ here.1))
 
-no_weight : (files : Files) (weights : List (Option ℕ)) (n : ℕ) → weights ≡ whole_weights files → HasBadWeight files n → HasNoWeight weights n
+no_weight : (files : Records) (weights : List (Option ℕ)) (n : ℕ) → weights ≡ whole_weights files → HasBadWeight files n → HasNoWeight weights n
 no_weight files weights n e h =
     let P : List (Option ℕ) → Type 0 = λ ws. HasNoWeight ws n in
     let same = length-weights files in
@@ -112,19 +112,19 @@ no_weight files weights n e h =
     let here : HasNoWeight (whole_weights files) n = (there, weight_is files n h.0 ∙ none) in
     subst P (sym e) here
 
-pub none_bad : (files : Files) (weights : List (Option ℕ)) → weights ≡ whole_weights files → ((n : ℕ) → HasNoWeight weights n → ⊥) → IsFree files 12
+pub none_bad : (files : Records) (weights : List (Option ℕ)) → weights ≡ whole_weights files → ((n : ℕ) → HasNoWeight weights n → ⊥) → IsFree files 12
 none_bad files weights e none = λ n h. none n (no_weight files weights n e h)
 
-pub first_bad : (files : Files) (weights : List (Option ℕ)) (n : ℕ) → weights ≡ whole_weights files → IsFree files 11 → IsFirst (HasNoWeight weights) n
+pub first_bad : (files : Records) (weights : List (Option ℕ)) (n : ℕ) → weights ≡ whole_weights files → IsFree files 11 → IsFirst (HasNoWeight weights) n
     → IsFirstFrom files 11 (Limit 5 n)
 first_bad files weights n e eleven h =
     let first : IsFirst (HasBadWeight files) n = record { here = bad_weight files weights n e h.here; not_before = λ j below bad. h.not_before j below (no_weight files weights j e bad) } in
     record { holds = inr (inr (inr (inr (inl (refl, first))))); before = free_one files 11 eleven }
 
-pub first_end : (files : Files) (r number : ℕ) → number ≡ r → IsFree files 11 → IsFree files 12 → IsFirst (IsPastEnd files) r → IsFirstFrom files 11 (Limit 6 number)
+pub first_end : (files : Records) (r number : ℕ) → number ≡ r → IsFree files 11 → IsFree files 12 → IsFirst (IsPastEnd files) r → IsFirstFrom files 11 (Limit 6 number)
 first_end files r number e eleven twelve h =
     let P : ℕ → Type 0 = λ k. IsFirst (IsPastEnd files) k in
     record { holds = inr (inr (inr (inr (inr (refl, subst P (sym e) h))))); before = free_more files 11 12 (free_one files 11 eleven) twelve }
 
-pub all_within : (files : Files) → IsFree files 11 → IsFree files 12 → IsFree files 13 → IsFreeFrom files 11 14
+pub all_within : (files : Records) → IsFree files 11 → IsFree files 12 → IsFree files 13 → IsFreeFrom files 11 14
 all_within files eleven twelve thirteen = free_more files 11 13 (free_more files 11 12 (free_one files 11 eleven) twelve) thirteen

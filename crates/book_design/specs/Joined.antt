@@ -6,10 +6,10 @@ use Rattle.book_files.specs.Entries.{NodeEntry, WeightEntry, PlaceEntry, PinEntr
 use Rattle.book_design.specs.declared.parts.Pin.{Pin}
 use Rattle.book_design.specs.declared.parts.Subrow.{Subrow}
 use Rattle.book_design.specs.declared.parts.Core.{Core}
-use Rattle.book_design.specs.Files.{Files, Strip, last_place, last_weight, row_at, strips, strip_at}
+use Rattle.book_design.specs.Records.{Records, Strip, last_place, last_weight, row_at, strips, strip_at}
 use Rattle.book_design.specs.Values.{NodeValue, NetValue, DesignValue}
 
-abbrev pub place_at : Files → ℕ → PlaceEntry
+abbrev pub place_at : Records → ℕ → PlaceEntry
 place_at files i = slice_index_or files.places i (record { line = 0; name = []; x = pos 0; y = pos 0; orient = N; fixed = false })
 
 -- a node with the place that the placement file gives it last: without one it stands at (0, 0) and isn't turned
@@ -17,48 +17,48 @@ abbrev pub placed : NodeEntry → Option PlaceEntry → NodeValue
 placed node None = record { name = node.name; width = node.width; height = node.height; x = pos 0; y = pos 0; orient = N; fixed = node.fixed }
 placed node (Some place) = record { name = node.name; width = node.width; height = node.height; x = place.x; y = place.y; orient = place.orient; fixed = node.fixed || place.fixed }
 
-abbrev pub joined_node : Files → NodeEntry → NodeValue
+abbrev pub joined_node : Records → NodeEntry → NodeValue
 joined_node files node = placed node (last_place files node.name)
 
 -- A node is fixed where its line marks it as a terminal, or the last line of its name in the placement file marks it.
-abbrev pub is_fixed : Files → NodeEntry → Bool
+abbrev pub is_fixed : Records → NodeEntry → Bool
 is_fixed files node = (joined_node files node).fixed
 
 -- the number of the node of that name
-abbrev pub number_of : Files → List ℕ → ℕ
+abbrev pub number_of : Records → List ℕ → ℕ
 number_of files name = position_or_len (λ node. bytes_eq node.name name) files.nodes
 
-abbrev pub joined_pin : Files → PinEntry → Pin
+abbrev pub joined_pin : Records → PinEntry → Pin
 joined_pin files pin = record { node = number_of files pin.node; dx = pin.dx; dy = pin.dy }
 
 abbrev pub weight_or_one : Option WeightEntry → ℤ
 weight_or_one None = pos 1000000
 weight_or_one (Some line) = line.weight
 
-abbrev pub named_weight : Files → Option (List ℕ) → ℤ
+abbrev pub named_weight : Records → Option (List ℕ) → ℤ
 named_weight files None = pos 1000000
 named_weight files (Some name) = weight_or_one (last_weight files name)
 
 -- A net's weight in millionths is that of the last line of its name in the weights file, and 1 without a name, a line or a file.
-abbrev pub weight_of : Files → NetEntry → ℤ
+abbrev pub weight_of : Records → NetEntry → ℤ
 weight_of files net = named_weight files net.name
 
-abbrev pub joined_net : Files → NetEntry → NetValue
+abbrev pub joined_net : Records → NetEntry → NetValue
 joined_net files net = record { weight = nat_abs (weight_of files net) / 1000000; pins = map (joined_pin files) net.pins }
 
 abbrev pub joined_subrow : Strip → Subrow
 joined_subrow strip = record { row = strip.row; x = strip.left; y = strip.lower; sites = strip.sites }
 
 -- a subrow that has a site
-abbrev pub HasSite : Files → ℕ → Type 0
+abbrev pub HasSite : Records → ℕ → Type 0
 HasSite files s = (s < length (strips files)) × (0 < (strip_at files s).sites)
 
 -- one of these subrows has this end
-abbrev pub HasEnd : Files → (Strip → ℤ) → ℤ → Type 0
+abbrev pub HasEnd : Records → (Strip → ℤ) → ℤ → Type 0
 HasEnd files end value = (s : ℕ) × HasSite files s × (end (strip_at files s) ≡ value)
 
 -- The core is the smallest rectangle around all subrows that have a site.
-pub record IsCore (files : Files) (core : Core) : Type 0 where
+pub record IsCore (files : Records) (core : Core) : Type 0 where
   pub left : (s : ℕ) → HasSite files s → core.xlo ≤ℤ (strip_at files s).left
   pub right : (s : ℕ) → HasSite files s → (strip_at files s).right ≤ℤ core.xhi
   pub lower : (s : ℕ) → HasSite files s → core.ylo ≤ℤ (strip_at files s).lower
@@ -69,7 +69,7 @@ pub record IsCore (files : Files) (core : Core) : Type 0 where
   pub at_upper : HasEnd files (λ strip. strip.upper) core.yhi
 
 -- The files make this design, which they do where they have no fault.
-pub record Joins (files : Files) (design : DesignValue) : Type 0 where
+pub record Joins (files : Records) (design : DesignValue) : Type 0 where
   pub nodes : design.nodes ≡ map (joined_node files) files.nodes
   pub nets : design.nets ≡ map (joined_net files) files.nets
   pub subrows : design.subrows ≡ map joined_subrow (strips files)

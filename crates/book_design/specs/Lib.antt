@@ -1,4 +1,4 @@
-pub mod Files
+pub mod Records
 pub mod Values
 pub mod Joined
 pub mod Faults

@@ -9,7 +9,7 @@ use Rattle.book_design.specs.Faults.{IsFirst, IsUnknown}
 use Rattle.book_design.specs.declared.strips.Strip.{Strip as Kept}
 use Rattle.book_design.specs.declared.rows.RowShape.{RowShape}
 use Rattle.book_design.specs.declared.parts.Subrow.{Subrow}
-use Rattle.book_design.specs.Files.{Files, Strip, strip_of, row_at, strips}
+use Rattle.book_design.specs.Records.{Records, Strip, strip_of, row_at, strips}
 use Rattle.book_design.specs.Joined.{joined_pin, weight_of}
 use Rattle.book_design.specs.Values.{NetValue}
 
@@ -19,18 +19,18 @@ whole_weight (pos n) = if n % 1000000 == 0 then (if nat_le (n / 1000000) 65535 t
 whole_weight (negsuc n) = None
 
 -- the weights of the nets
-abbrev pub whole_weights : Files → List (Option ℕ)
+abbrev pub whole_weights : Records → List (Option ℕ)
 whole_weights files = map (λ net. whole_weight (weight_of files net)) files.nets
 
 -- a net with its pins; in place of a weight that is no whole number stands 0
-abbrev pub pinned_net : Files → NetEntry → NetValue
+abbrev pub pinned_net : Records → NetEntry → NetValue
 pinned_net files net = record { weight = unwrap_or (whole_weight (weight_of files net)) 0; pins = map (joined_pin files) net.pins }
 
 -- a subrow as the code keeps it, without its upper edge
 abbrev pub outline : Strip → Kept
 outline s = record { row = s.row; left = s.left; right = s.right; lower = s.lower; sites = s.sites }
 
-abbrev pub outlines : Files → List Kept
+abbrev pub outlines : Records → List Kept
 outlines files = map outline (strips files)
 
 -- past the end there is a subrow without sites
@@ -41,7 +41,7 @@ abbrev pub joined_kept : Kept → Subrow
 joined_kept s = record { row = s.row; x = s.left; y = s.lower; sites = s.sites }
 
 -- the height and the pitch of row 0
-pub record IsShape (files : Files) (shape : RowShape) : Type 0 where
+pub record IsShape (files : Records) (shape : RowShape) : Type 0 where
   pub height : shape.height ≡ (row_at files 0).height
   pub pitch : shape.pitch ≡ (row_at files 0).pitch
 
@@ -50,15 +50,15 @@ abbrev pub pin_in : List PinEntry → ℕ → PinEntry
 pin_in pins j = slice_index_or pins j (record { line = 0; node = []; dx = pos 0; dy = pos 0 })
 
 -- each of these pins has the name of a node
-abbrev pub AreKnown : Files → List PinEntry → Type 0
+abbrev pub AreKnown : Records → List PinEntry → Type 0
 AreKnown files pins = (j : ℕ) → j < length pins → IsUnknown files (pin_in pins j).node → ⊥
 
 -- a pin whose name no node has
-abbrev pub IsUnknownIn : Files → List PinEntry → ℕ → Type 0
+abbrev pub IsUnknownIn : Records → List PinEntry → ℕ → Type 0
 IsUnknownIn files pins j = (j < length pins) × IsUnknown files (pin_in pins j).node
 
 -- the join of a net's pins ends there: the fault tells the first that no node has
-abbrev pub StopsInPins : Files → List PinEntry → JoinError → Type 0
+abbrev pub StopsInPins : Records → List PinEntry → JoinError → Type 0
 StopsInPins files pins (Fault fault) = (j : ℕ) × IsFirst (IsUnknownIn files pins) j × (fault ≡ UnknownName Nets (pin_in pins j).line)
 StopsInPins files pins Memory = Unit {0}
 

@@ -3,7 +3,7 @@ use Rattle.std.specs.Prelude.{◌≡◌, ◌≢◌, ◌⊎◌, ℕ, ◌<◌, Lis
 use Rattle.book_files.specs.Entries.{RowEntry}
 use Rattle.book_design.specs.declared.strips.Strip.{Strip as Kept}
 use Rattle.book_design.specs.declared.rows.RowShape.{RowShape}
-use Rattle.book_design.specs.Files.{strip_of}
+use Rattle.book_design.specs.Records.{strip_of}
 use Rattle.book_design.specs.Parts.{outline, kept_at}
 
 -- the subrows of a row by its number

@@ -5,10 +5,10 @@ use Rattle.book_files.specs.Entries.{WeightEntry, node_entries, weight_entries, 
 use Rattle.book_files.specs.Blocks.{net_entries, row_entries}
 use Rattle.book_files.specs.Ranges.{IsNodeInRange, IsNetInRange, IsPlaceInRange, IsRowInRange}
 use Rattle.book_design.specs.declared.sources.Sources.{Sources}
-use Rattle.book_design.specs.Files.{Files, node_at, weight_lines, last_of}
+use Rattle.book_design.specs.Records.{Records, node_at, weight_lines, last_of}
 use Rattle.book_design.specs.Joined.{place_at}
 
-abbrev pub files_of : Sources → Files
+abbrev pub files_of : Sources → Records
 files_of sources = record {
   nodes = node_entries sources.nodes.now;
   nets = net_entries sources.nets.now;
@@ -18,27 +18,27 @@ files_of sources = record {
 }
 
 -- what the readers of the files ensure of their numbers
-pub record AreInRange (files : Files) : Type 0 where
+pub record AreInRange (files : Records) : Type 0 where
   pub nodes : AllByRecursion IsNodeInRange files.nodes
   pub nets : AllByRecursion IsNetInRange files.nets
   pub places : AllByRecursion IsPlaceInRange files.places
   pub rows : AllByRecursion IsRowInRange files.rows
 
 -- past the end stands a line without a name
-abbrev pub weight_at : Files → ℕ → WeightEntry
+abbrev pub weight_at : Records → ℕ → WeightEntry
 weight_at files i = slice_index_or (weight_lines files) i (record { name = []; weight = pos 0 })
 
 -- the names of the lines, by number
-abbrev pub node_name : Files → ℕ → List ℕ
+abbrev pub node_name : Records → ℕ → List ℕ
 node_name files i = (node_at files i).name
 
-abbrev pub place_name : Files → ℕ → List ℕ
+abbrev pub place_name : Records → ℕ → List ℕ
 place_name files i = (place_at files i).name
 
 abbrev pub entry_name : List WeightEntry → ℕ → List ℕ
 entry_name lines i = (slice_index_or lines i (record { name = []; weight = pos 0 })).name
 
-abbrev pub weight_name : Files → ℕ → List ℕ
+abbrev pub weight_name : Records → ℕ → List ℕ
 weight_name files = entry_name (weight_lines files)
 
 -- the last of these lines with the name

@@ -1,7 +1,7 @@
 -- Subrows of rows of one height, as the code keeps them.
 use Rattle.std.specs.Prelude.{ℕ, List, map, ◌^◌, ℤ, pos, neg_ℤ, ◌+ℤ◌, ◌≤ℤ◌, Option, Some, None}
 use Rattle.book_design.specs.declared.strips.Strip.{Strip as Kept}
-use Rattle.book_design.specs.Files.{Strip}
+use Rattle.book_design.specs.Records.{Strip}
 use Rattle.book_design.specs.Faults.{IsFirst, IsOverlapping}
 
 abbrev pub strip_value : ℤ → Kept → Strip

@@ -2,7 +2,7 @@
 use Rattle.std.specs.Prelude.{◌≡◌, ℕ, ◌<◌, ◌^◌, List, length, Option, None, pos, ◌+ℤ◌, ◌<ℤ◌, slice_index_or}
 use Rattle.book_files.specs.Entries.{RowEntry}
 use Rattle.book_design.specs.declared.strips.Strip.{Strip as Kept}
-use Rattle.book_design.specs.Files.{Files, row_at}
+use Rattle.book_design.specs.Records.{Records, row_at}
 use Rattle.book_design.specs.Parts.{kept_at}
 
 -- a subrow with more than 16,777,216 sites
@@ -21,7 +21,7 @@ HasNoWeight weights n = (n < length weights) × (weight_in weights n ≡ None)
 abbrev pub EndsHigh : RowEntry → Type 0
 EndsHigh row = pos (10 ^ 12) <ℤ (row.y +ℤ row.height)
 
-abbrev pub IsHigh : Files → ℕ → Type 0
+abbrev pub IsHigh : Records → ℕ → Type 0
 IsHigh files r = (r < length files.rows) × EndsHigh (row_at files r)
 
 -- the right end of the subrow lies past the end

@@ -6,7 +6,7 @@ ghost use Rattle.book_files.specs.declared.records.FileKind.TheVariants.{Nets};
 ghost use Rattle.book_design.specs.declared.fault.JoinError.TheVariants.{Fault};
 ghost use Rattle.book_design.specs.declared.fault.DesignFault.TheVariants.{UnknownName};
 ghost use Rattle.book_files.specs.Blocks.{net_entry};
-ghost use Rattle.book_design.specs.Files.{last_weight, weight_lines};
+ghost use Rattle.book_design.specs.Records.{last_weight, weight_lines};
 ghost use Rattle.book_design.specs.Faults.{IsUnknown, IsUnknownPin, IsUnknownPlace};
 ghost use Rattle.book_design.specs.Joined.{weight_of, joined_pin};
 ghost use Rattle.book_design.specs.Nets.{net_values};

@@ -2,7 +2,7 @@
 
 ghost use Rattle.std.specs.Prelude.{◌≡◌, ◌<◌, ◌^◌, map, length, option_map, MatchResult};
 ghost use Rattle.book_files.specs.Entries.{node_entry, place_entry};
-ghost use Rattle.book_design.specs.Files.{last_place};
+ghost use Rattle.book_design.specs.Records.{last_place};
 ghost use Rattle.book_design.specs.Joined.{joined_node, placed};
 ghost use Rattle.book_design.specs.Values.{node_value, node_values};
 ghost use Rattle.book_design.specs.Steps.{IsFree, Stops};

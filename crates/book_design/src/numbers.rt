@@ -2,7 +2,7 @@
 
 ghost use Rattle.std.specs.Prelude.{◌≡◌, ℕ, List, length, Some, IfOk, OnOk, MatchResult, if◌then◌else◌};
 ghost use Rattle.std.specs.Str.{bytes_eq};
-ghost use Rattle.book_design.specs.Files.{weight_lines};
+ghost use Rattle.book_design.specs.Records.{weight_lines};
 ghost use Rattle.book_design.specs.Steps.{IsFree, Stops};
 ghost use Rattle.book_design.specs.Numbers.{number_in, AreNumbers};
 ghost use Rattle.book_design.specs.Sources.{files_of, node_name, place_name, weight_name, entry_name};

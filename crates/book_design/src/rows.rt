@@ -6,7 +6,7 @@ ghost use Rattle.book_design.specs.Steps.{IsFreeFrom, IsFree, Stops};
 ghost use Rattle.book_design.specs.Strips.{IsStripInRange};
 ghost use Rattle.book_design.specs.Sources.{files_of, AreInRange};
 ghost use Rattle.book_design.specs.Parts.{outline, outlines, IsShape};
-ghost use Rattle.book_design.specs.Files.{strip_of};
+ghost use Rattle.book_design.specs.Records.{strip_of};
 ghost use Rattle.book_design.specs.RowParts.{row_outlines, HaveSite, HaveNoSite, HasShape, HasOtherShape};
 ghost use Rattle.book_design.specs.Faults.{IsFirst, IsMixedRow};
 ghost use Rattle.book_files.specs.Entries.{subrow_entry};

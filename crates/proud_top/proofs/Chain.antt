@@ -15,7 +15,7 @@ use Rattle.book_files.specs.Entries.{AuxEntry, WeightEntry, RowEntry}
 use Rattle.book_files.specs.Grammar.{Grammar, IsReading, IsFirstFault, Answers}
 use Rattle.book_files.specs.WeightRules.{weights_grammar}
 use Rattle.book_design.specs.declared.fault.DesignFault.{DesignFault}
-use Rattle.book_design.specs.Files.{Files}
+use Rattle.book_design.specs.Records.{Records}
 use Rattle.book_design.specs.Values.{DesignValue}
 use Rattle.book_design.specs.Answers.{IsJoined}
 use Rattle.net_model.specs.declared.fault.NetFault.{NetFault}
@@ -41,19 +41,19 @@ both_told None f h k = tt
 both_told (Some x) f h k = f x h k
 
 -- each file before that of the kind is accepted
-abbrev pub AreBefore : List FileEntry → List ℕ → AuxEntry → Files → FileKind → Type 0
+abbrev pub AreBefore : List FileEntry → List ℕ → AuxEntry → Records → FileKind → Type 0
 AreBefore told word names inputs kind = (before : FileKind) → rank before < rank kind → IsAccepted told word names inputs before
 
-abbrev pub HasBefore : Option (List FileEntry) → List ℕ → AuxEntry → Files → FileKind → Type 0
+abbrev pub HasBefore : Option (List FileEntry) → List ℕ → AuxEntry → Records → FileKind → Type 0
 HasBefore files word names inputs kind = IfSome files (λ told. AreBefore told word names inputs kind)
 
-pub before_none : (files : Option (List FileEntry)) (word : List ℕ) (names : AuxEntry) (inputs : Files) → HasBefore files word names inputs Aux
+pub before_none : (files : Option (List FileEntry)) (word : List ℕ) (names : AuxEntry) (inputs : Records) → HasBefore files word names inputs Aux
 before_none None word names inputs = tt
 before_none (Some told) word names inputs = λ before less. absurd (none (rank before) less) where
   none : (n : ℕ) → n < 0 → ⊥
   none n less = omega arith
 
-pub before_next : (files : Option (List FileEntry)) (word : List ℕ) (names : AuxEntry) (inputs : Files) (kind next : FileKind) → rank next ≡ suc (rank kind)
+pub before_next : (files : Option (List FileEntry)) (word : List ℕ) (names : AuxEntry) (inputs : Records) (kind next : FileKind) → rank next ≡ suc (rank kind)
     → HasBefore files word names inputs kind → IfSome files (λ told. IsAccepted told word names inputs kind) → HasBefore files word names inputs next
 before_next None word names inputs kind next e h k = tt
 before_next (Some told) word names inputs kind next e h k = λ before less. by_order before (cases_order (rank before) (rank kind)) less where
@@ -179,19 +179,19 @@ weights_faults files word mid now (Some name) None h = absurd h
 weights_faults files word mid now (Some name) (Some bytes) h = h.2
 
 -- What stands where the file of the kind is to be read: each file before it is accepted, and was begun.
-pub record Front (files : Option (List FileEntry)) (word : List ℕ) (names : AuxEntry) (inputs : Files) (kind : FileKind) (start now : Counts) : Type 0 where
+pub record Front (files : Option (List FileEntry)) (word : List ℕ) (names : AuxEntry) (inputs : Records) (kind : FileKind) (start now : Counts) : Type 0 where
   pub before : HasBefore files word names inputs kind
   pub read : ℕ
   pub place : place_of names kind ≡ suc read
   pub went : Went files start now read
 
-pub front_first : (files : Option (List FileEntry)) (word : List ℕ) (names : AuxEntry) (inputs : Files) (start : Counts) → Front files word names inputs Aux start start
+pub front_first : (files : Option (List FileEntry)) (word : List ℕ) (names : AuxEntry) (inputs : Records) (start : Counts) → Front files word names inputs Aux start start
 front_first files word names inputs start = record { before = before_none files word names inputs; read = 0; place = refl; went = went_none files start }
 
 -- the file of the kind was read, and the next is to be
 pub front_next : {A I R : Type 0} (kind next : FileKind) (grammar : Grammar I R) (view : A → R)
     (files of : Option (List FileEntry)) (word name text : List ℕ) (bytes : Vec ℕ Global) (answer : Result A ReadError) (records : A)
-    (names : AuxEntry) (inputs : Files) (start mid now : Counts)
+    (names : AuxEntry) (inputs : Records) (start mid now : Counts)
     → rank next ≡ suc (rank kind) → place_of names next ≡ suc (place_of names kind)
     → ((told : List FileEntry) → Reads told name grammar (view records) → IsAccepted told word names inputs kind) → of ≡ files
     → Front files word names inputs kind start mid → Loads kind of name mid now (Ok bytes) → text ≡ bytes.items
@@ -209,7 +209,7 @@ front_next kind next grammar view files of word name text bytes answer records n
 
 -- the weights were read, where the aux file names them
 pub front_weights : (files of : Option (List FileEntry)) (word : List ℕ) (bytes : Option (Vec ℕ Global)) (shown : Option (List ℕ)) (weights : Option (List WeightEntry))
-    (names : AuxEntry) (inputs : Files) (start mid now : Counts) → inputs.weights ≡ weights → of ≡ files → Front files word names inputs Wts start mid
+    (names : AuxEntry) (inputs : Records) (start mid now : Counts) → inputs.weights ≡ weights → of ≡ files → Front files word names inputs Wts start mid
     → LoadsWeights of word names.wts mid now (Ok bytes) → shown ≡ texts_of bytes → GivesWeights shown (Ok weights) → Front files word names inputs Pl start now
 front_weights files of word bytes shown weights names inputs start mid now here alike f loaded same gives =
     let G : Option (List ℕ) → Type 0 = λ o. GivesWeights o (Ok weights) in
@@ -224,11 +224,11 @@ front_weights files of word bytes shown weights names inputs start mid now here 
     }
 
 -- a file of the kind that is reached
-reached : (told : List FileEntry) (word name : List ℕ) (kind : FileKind) (names : AuxEntry) (inputs : Files) (n : ℕ) → place_of names kind ≡ suc n
+reached : (told : List FileEntry) (word name : List ℕ) (kind : FileKind) (names : AuxEntry) (inputs : Records) (n : ℕ) → place_of names kind ≡ suc n
     → AreBefore told word names inputs kind → name_of word names kind ≡ Some name → IsReached told word kind name (suc n)
 reached told word name kind names inputs n e before named = record { names = names; inputs = inputs; accepted = before; named = named; placed = sym e }
 
-stop_at : (files : Option (List FileEntry)) (word name : List ℕ) (before mid now : Counts) (kind : FileKind) (names : AuxEntry) (inputs : Files) (n : ℕ) (stop : Stop)
+stop_at : (files : Option (List FileEntry)) (word name : List ℕ) (before mid now : Counts) (kind : FileKind) (names : AuxEntry) (inputs : Records) (n : ℕ) (stop : Stop)
     → Went files before mid n → place_of names kind ≡ suc n → HasBefore files word names inputs kind → name_of word names kind ≡ Some name
     → Loads kind files name mid now (Err stop) → Places files word before now (Err stop)
 stop_at None word name before mid now kind names inputs n (Refused refusal node) w e b named h =
@@ -264,14 +264,14 @@ stop_at (Some told) word name before mid now kind names inputs n (Unread other) 
 stop_at files word name before mid now kind names inputs n Memory w e b named h = h ∙ w.faults
 
 -- the load of the file of the kind stopped the run
-pub stop_load : (kind : FileKind) (files of : Option (List FileEntry)) (word name : List ℕ) (names : AuxEntry) (inputs : Files) (start mid now : Counts) (stop : Stop)
+pub stop_load : (kind : FileKind) (files of : Option (List FileEntry)) (word name : List ℕ) (names : AuxEntry) (inputs : Records) (start mid now : Counts) (stop : Stop)
     → of ≡ files → name_of word names kind ≡ Some name → Front files word names inputs kind start mid
     → Loads kind of name mid now (Err stop) → Places files word start now (Err stop)
 stop_load kind files of word name names inputs start mid now stop alike named f h =
     let L : Option (List FileEntry) → Type 0 = λ o. Loads kind o name mid now (Err stop) in
     stop_at files word name start mid now kind names inputs f.read stop f.went f.place f.before named (subst L alike h)
 
-pub stop_load_weights : (files of : Option (List FileEntry)) (word : List ℕ) (names : AuxEntry) (inputs : Files) (start mid now : Counts) (stop : Stop)
+pub stop_load_weights : (files of : Option (List FileEntry)) (word : List ℕ) (names : AuxEntry) (inputs : Records) (start mid now : Counts) (stop : Stop)
     → of ≡ files → Front files word names inputs Wts start mid
     → LoadsWeights of word names.wts mid now (Err stop) → Places files word start now (Err stop)
 stop_load_weights files of word names inputs start mid now stop alike f h = by_name names.wts refl h where
@@ -280,7 +280,7 @@ stop_load_weights files of word names inputs start mid now stop alike f h = by_n
   by_name (Some name) e k = stop_load Wts files of word (beside word name) names inputs start mid now stop alike (ap (option_map (beside word)) e) f k
 
 -- the text of the file of the kind stopped the run
-stop_text : (files : Option (List FileEntry)) (word name text : List ℕ) (before now : Counts) (kind : FileKind) (names : AuxEntry) (inputs : Files) (stop : Stop)
+stop_text : (files : Option (List FileEntry)) (word name text : List ℕ) (before now : Counts) (kind : FileKind) (names : AuxEntry) (inputs : Records) (stop : Stop)
     → (n : ℕ) → Went files before now (suc n) → place_of names kind ≡ suc n → HasBefore files word names inputs kind → name_of word names kind ≡ Some name
     → IsText files name text → Faults kind text stop → Places files word before now (Err stop)
 stop_text None word name text before now kind names inputs (Refused refusal node) n w e b named held h =
@@ -300,7 +300,7 @@ stop_text files word name text before now kind names inputs Memory n w e b named
 
 pub stop_read : {A I R : Type 0} (kind : FileKind) (grammar : Grammar I R) (view : A → R)
     (files of : Option (List FileEntry)) (word name text : List ℕ) (bytes : Vec ℕ Global) (answer : Result A ReadError)
-    (names : AuxEntry) (inputs : Files) (start mid now : Counts) (stop : Stop)
+    (names : AuxEntry) (inputs : Records) (start mid now : Counts) (stop : Stop)
     → ((fault : TextFault) → IsFirstFault grammar text fault → IsFaultOf kind text fault) → of ≡ files → name_of word names kind ≡ Some name
     → Front files word names inputs kind start mid → Loads kind of name mid now (Ok bytes) → text ≡ bytes.items
     → Answers grammar view text answer → IsTold kind answer (Err stop) → Places files word start now (Err stop)
@@ -312,7 +312,7 @@ stop_read kind grammar view files of word name text bytes answer names inputs st
     (given_fault kind grammar view text answer stop conv answers told)
 
 pub stop_read_weights : (files of : Option (List FileEntry)) (word : List ℕ) (bytes : Option (Vec ℕ Global)) (shown : Option (List ℕ))
-    (names : AuxEntry) (inputs : Files) (start mid now : Counts) (stop : Stop) → of ≡ files → Front files word names inputs Wts start mid
+    (names : AuxEntry) (inputs : Records) (start mid now : Counts) (stop : Stop) → of ≡ files → Front files word names inputs Wts start mid
     → LoadsWeights of word names.wts mid now (Ok bytes) → shown ≡ texts_of bytes → GivesWeights shown (Err stop) → Places files word start now (Err stop)
 stop_read_weights files of word bytes shown names inputs start mid now stop alike f loaded same gives = by_name names.wts bytes refl loaded (subst G same gives) where
   G : Option (List ℕ) → Type 0
@@ -327,7 +327,7 @@ stop_read_weights files of word bytes shown names inputs start mid now stop alik
       stop_text files word (beside word name) found.items start now Wts names inputs stop f.read (went_one files of (beside word name) found.items start mid now f.read alike f.went l.0 l.1 l.2) f.place f.before (ap (option_map (beside word)) e) (subst T alike l.0) g
 
 -- all files are accepted
-pub all_read : (files : Option (List FileEntry)) (word : List ℕ) (names : AuxEntry) (inputs : Files)
+pub all_read : (files : Option (List FileEntry)) (word : List ℕ) (names : AuxEntry) (inputs : Records)
     → HasBefore files word names inputs Scl → IfSome files (λ told. IsAccepted told word names inputs Scl) → IfSome files (λ told. Accepts told word names inputs)
 all_read None word names inputs b h = tt
 all_read (Some told) word names inputs b h = record {
@@ -339,7 +339,7 @@ all_read (Some told) word names inputs b h = record {
   scl = h;
 }
 
-last_begun : (files : Option (List FileEntry)) (word name : List ℕ) (names : AuxEntry) (inputs : Files) (start now : Counts) (n : ℕ) → place_of names Scl ≡ suc n
+last_begun : (files : Option (List FileEntry)) (word name : List ℕ) (names : AuxEntry) (inputs : Records) (start now : Counts) (n : ℕ) → place_of names Scl ≡ suc n
     → HasBefore files word names inputs Scl → name_of word names Scl ≡ Some name → Went files start now (suc n) → IfSome files (λ told. IsLast told word Scl start now)
 last_begun None word name names inputs start now n e b named w = tt
 last_begun (Some told) word name names inputs start now n e b named w =
@@ -348,7 +348,7 @@ last_begun (Some told) word name names inputs start now n e b named w =
 -- the last file was read, so that all are accepted
 pub front_last : {A I : Type 0} (grammar : Grammar I (List RowEntry)) (view : A → List RowEntry)
     (files of : Option (List FileEntry)) (word name text : List ℕ) (bytes : Vec ℕ Global) (answer : Result A ReadError) (records : A)
-    (names : AuxEntry) (inputs : Files) (start mid now : Counts)
+    (names : AuxEntry) (inputs : Records) (start mid now : Counts)
     → ((told : List FileEntry) → Reads told name grammar (view records) → IsAccepted told word names inputs Scl) → of ≡ files → name_of word names Scl ≡ Some name
     → Front files word names inputs Scl start mid → Loads Scl of name mid now (Ok bytes) → text ≡ bytes.items
     → Answers grammar view text answer → IsTold Scl answer (Ok records) → IfSome files (λ told. Accepts told word names inputs) × (now.faults ≡ start.faults) × IfSome files (λ told. IsLast told word Scl start now)
@@ -360,23 +360,23 @@ front_last grammar view files of word name text bytes answer records names input
       last_begun files word name names inputs start now f.read f.place f.before named (went_one files of name bytes.items start mid now f.read alike f.went loaded.0 loaded.1 loaded.2),
     )
 
-name_told : (told : List FileEntry) (word name : List ℕ) (names : AuxEntry) (inputs : Files) (fault : DesignFault)
+name_told : (told : List FileEntry) (word name : List ℕ) (names : AuxEntry) (inputs : Records) (fault : DesignFault)
     → Accepts told word names inputs → IfSome (node_of_fault fault) (IsNameIn inputs.nodes name) → IsNodeName told word (Design fault) name
 name_told told word name names inputs fault a h = by_node (node_of_fault fault) h where
   by_node : (number : Option ℕ) → IfSome number (IsNameIn inputs.nodes name) → IfSome number (λ n. HasNodeNamed told word n name)
   by_node None k = tt
   by_node (Some n) k = record { names = names; nodes = inputs.nodes; node = k.0; aux_read = a.aux; nodes_read = a.nodes; there = k.1; named = k.2 }
 
-point_name_told : (told : List FileEntry) (word name : List ℕ) (names : AuxEntry) (inputs : Files) (design : DesignValue) (point : ℕ)
+point_name_told : (told : List FileEntry) (word name : List ℕ) (names : AuxEntry) (inputs : Records) (design : DesignValue) (point : ℕ)
     → Accepts told word names inputs → IsJoined inputs design → IsPointNamed design name point → HasPointNamed told word point name
 point_name_told told word name names inputs design point a j h = record { names = names; inputs = inputs; design = design; i = h.i; accepted = a; joined = j; node = h.node; named = h.named }
 
-fault_name_told : (told : List FileEntry) (word name : List ℕ) (names : AuxEntry) (inputs : Files) (design : DesignValue) (fault : NetFault)
+fault_name_told : (told : List FileEntry) (word name : List ℕ) (names : AuxEntry) (inputs : Records) (design : DesignValue) (fault : NetFault)
     → Accepts told word names inputs → IsJoined inputs design → IfSome (point_of_fault fault) (IsPointNamed design name) → IsNodeName told word (Net fault) name
 fault_name_told told word name names inputs design fault a j h = for_told (point_of_fault fault) (λ point k. point_name_told told word name names inputs design point a j k) h
 
 -- what the records make ends the run
-pub ends : (files : Option (List FileEntry)) (word : List ℕ) (before now : Counts) (names : AuxEntry) (inputs : Files) (result : Result (Vec ℕ Global) Stop)
+pub ends : (files : Option (List FileEntry)) (word : List ℕ) (before now : Counts) (names : AuxEntry) (inputs : Records) (result : Result (Vec ℕ Global) Stop)
     → IfSome files (λ told. Accepts told word names inputs) → now.faults ≡ before.faults → IfSome files (λ told. IsLast told word Scl before now) → Solves inputs result → Places files word before now result
 ends files word before now names inputs (Ok text) a same last h =
     (for_told files (λ told accepted. record { names = names; inputs = inputs; accepted = accepted; reported = h }) a, same, last, record { inputs = inputs; reported = h })

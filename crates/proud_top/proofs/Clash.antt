@@ -9,7 +9,7 @@ use Rattle.book_files.specs.declared.fault.TextFault.{TextFault}
 use Rattle.book_files.specs.Entries.{AuxEntry}
 use Rattle.book_files.specs.Loading.{most_bytes}
 use Rattle.book_design.specs.declared.fault.DesignFault.{DesignFault}
-use Rattle.book_design.specs.Files.{Files}
+use Rattle.book_design.specs.Records.{Records}
 use Rattle.book_design.specs.Values.{DesignValue}
 use Rattle.book_design.specs.Faults.{IsFirstFault}
 use Rattle.book_design.specs.Answers.{IsJoined}
@@ -31,7 +31,7 @@ pub data NetCause (design : DesignValue) (refusal : Refusal) : Type 0 where
   loose : (point : ℕ) (network : NetworkValue) → refusal ≡ Unanchored point → IsNetwork design network → IsFirstUnanchored (joints_of network) point → NetCause design refusal
 
 -- the cause in what the files make
-pub data JoinCause (inputs : Files) (refusal : Refusal) : Type 0 where
+pub data JoinCause (inputs : Records) (refusal : Refusal) : Type 0 where
   unjoined : (fault : DesignFault) → refusal ≡ Design fault → IsFirstFault inputs fault → JoinCause inputs refusal
   joined : (design : DesignValue) → IsJoined inputs design → NetCause design refusal → JoinCause inputs refusal
 
@@ -39,7 +39,7 @@ pub data JoinCause (inputs : Files) (refusal : Refusal) : Type 0 where
 pub data Cause (files : List FileEntry) (word : List ℕ) (refusal : Refusal) : Type 0 where
   long : (kind : FileKind) → refusal ≡ TooLong kind → IsTooLong files word kind → Cause files word refusal
   bad : (kind : FileKind) (fault : TextFault) → refusal ≡ Text kind fault → IsBadText files word kind fault → Cause files word refusal
-  accepted : (names : AuxEntry) (inputs : Files) → Accepts files word names inputs → JoinCause inputs refusal → Cause files word refusal
+  accepted : (names : AuxEntry) (inputs : Records) → Accepts files word names inputs → JoinCause inputs refusal → Cause files word refusal
 
 open_cause : (files : List FileEntry) (word : List ℕ) (refusal : Refusal) → IsRefusedAs files word refusal → Cause files word refusal
 open_cause files word (TooLong kind) h = long kind refl h
@@ -110,7 +110,7 @@ no_net_cause one design network refusal made chains (loose p n e same h) =
     no_unanchored network p chains (subst P networks h)
 
 -- what the files make gives one cause
-one_join_cause : OneAnswer → (inputs : Files) (a b : Refusal) → JoinCause inputs a → JoinCause inputs b → a ≡ b
+one_join_cause : OneAnswer → (inputs : Records) (a b : Refusal) → JoinCause inputs a → JoinCause inputs b → a ≡ b
 one_join_cause one inputs a b (unjoined f e h) (unjoined g d k) = e ∙ ap Design ((one.join inputs).one_fault f g h k) ∙ sym d
 one_join_cause one inputs a b (unjoined f e h) (joined design j k) = absurd ((one.join inputs).not_both design f j h)
 one_join_cause one inputs a b (joined design j h) (unjoined g d k) = absurd ((one.join inputs).not_both design g j k)
@@ -120,7 +120,7 @@ one_join_cause one inputs a b (joined x j h) (joined y i k) =
     one_net_cause one y a b (subst P designs h) k
 
 -- and none where they make such a design
-no_join_cause : OneAnswer → (inputs : Files) (design : DesignValue) (network : NetworkValue) (refusal : Refusal) → IsJoined inputs design
+no_join_cause : OneAnswer → (inputs : Records) (design : DesignValue) (network : NetworkValue) (refusal : Refusal) → IsJoined inputs design
     → IsNetwork design network → ((p : ℕ) → p < length network.points → HasChain (joints_of network) p) → JoinCause inputs refusal → ⊥
 no_join_cause one inputs design network refusal joins made chains (unjoined f e h) = (one.join inputs).not_both design f joins h
 no_join_cause one inputs design network refusal joins made chains (joined y i k) =
@@ -129,7 +129,7 @@ no_join_cause one inputs design network refusal joins made chains (joined y i k)
     no_net_cause one design network refusal made chains (subst P designs k)
 
 -- files that make a design in which a chain leads from each point to a pad are refused for none
-pub placed_or_refused : OneAnswer → (files : List FileEntry) (word : List ℕ) (names : AuxEntry) (inputs : Files) (design : DesignValue) (network : NetworkValue) (refusal : Refusal)
+pub placed_or_refused : OneAnswer → (files : List FileEntry) (word : List ℕ) (names : AuxEntry) (inputs : Records) (design : DesignValue) (network : NetworkValue) (refusal : Refusal)
     → Accepts files word names inputs → IsJoined inputs design → IsNetwork design network → ((p : ℕ) → p < length network.points → HasChain (joints_of network) p)
     → IsRefusedAs files word refusal → ⊥
 placed_or_refused one files word names inputs design network refusal h joins made chains k = by_cause (open_cause files word refusal k) where
@@ -138,7 +138,7 @@ placed_or_refused one files word names inputs design network refusal h joins mad
   by_cause (bad kind fault e b) = accepts_all one files word names inputs kind h (bad_stops files word kind fault b)
   by_cause (accepted other given a c) =
       let same : given ≡ inputs = accepts_once one files word other names given inputs a h in
-      let P : Files → Type 0 = λ x. JoinCause x refusal in
+      let P : Records → Type 0 = λ x. JoinCause x refusal in
       no_join_cause one inputs design network refusal joins made chains (subst P same c)
 
 -- a design is refused by one cause at most
@@ -155,5 +155,5 @@ one_refusal one files word a b h k = both (open_cause files word a h) (open_caus
   both (accepted names inputs l c) (bad y g d m) = absurd (accepts_all one files word names inputs y l (bad_stops files word y g m))
   both (accepted m x l c) (accepted n y i d) =
       let same : x ≡ y = accepts_once one files word m n x y l i in
-      let P : Files → Type 0 = λ inputs. JoinCause inputs a in
+      let P : Records → Type 0 = λ inputs. JoinCause inputs a in
       one_join_cause one y a b (subst P same c) d

@@ -7,7 +7,7 @@ use Rattle.book_outer.specs.Files.{FileEntry}
 use Rattle.book_files.specs.declared.records.FileKind.{FileKind}
 use Rattle.book_files.specs.declared.records.FileKind.TheVariants.{Scl}
 use Rattle.book_files.specs.Entries.{AuxEntry}
-use Rattle.book_design.specs.Files.{Files}
+use Rattle.book_design.specs.Records.{Records}
 use Rattle.book_design.specs.Values.{DesignValue}
 use Rattle.book_design.specs.Answers.{IsJoined}
 use Rattle.net_model.specs.Values.{NetworkValue}
@@ -20,7 +20,7 @@ use Rattle.proud_top.specs.Stops.{IsReportOf, IsReportText}
 use Rattle.proud_top.specs.Flow.{◌then◌, places, places_records, places_design, reads_known, solves, reports, reaches}
 
 -- the report of some records
-pub report_records : (records : Files) (text : List ℕ) → places_records records (Ok text) → IsReportText records text
+pub report_records : (records : Records) (text : List ℕ) → places_records records (Ok text) → IsReportText records text
 report_records records text h =
     let n = h.2 in
     let r = n.2 in
@@ -46,18 +46,18 @@ cause_known files word refusal h = by_reading h where
   P : Refusal → Type 0
   P r = IsRefusedAs files word r
 
-  by_reach : (names : AuxEntry) (records : Files) (design : DesignValue) (network : NetworkValue) → Accepts files word names records → IsJoined records design → IsNetwork design network
+  by_reach : (names : AuxEntry) (records : Records) (design : DesignValue) (network : NetworkValue) → Accepts files word names records → IsJoined records design → IsNetwork design network
       → (reaches network then λ done. solves network then λ solved. reports design solved) (Err refusal) → IsRefusedAs files word refusal
   by_reach names records design network a j n (inl (point, e, first)) =
       subst P (sym e) (record { names = names; inputs = records; design = design; network = network; accepted = a; joined = j; made = n; first = first })
   by_reach names records design network a j n (inr (done, chains, inl none)) = absurd none
   by_reach names records design network a j n (inr (done, chains, inr (solved, is, none))) = absurd none
 
-  by_network : (names : AuxEntry) (records : Files) (design : DesignValue) → Accepts files word names records → IsJoined records design → places_design design (Err refusal) → IsRefusedAs files word refusal
+  by_network : (names : AuxEntry) (records : Records) (design : DesignValue) → Accepts files word names records → IsJoined records design → places_design design (Err refusal) → IsRefusedAs files word refusal
   by_network names records design a j (inl (fault, e, faulty)) = subst P (sym e) (record { names = names; inputs = records; design = design; accepted = a; joined = j; faulty = faulty })
   by_network names records design a j (inr (network, n, rest)) = by_reach names records design network a j n rest
 
-  by_join : (names : AuxEntry) (records : Files) → Accepts files word names records → places_records records (Err refusal) → IsRefusedAs files word refusal
+  by_join : (names : AuxEntry) (records : Records) → Accepts files word names records → places_records records (Err refusal) → IsRefusedAs files word refusal
   by_join names records a (inl (fault, e, faulty)) = subst P (sym e) (record { names = names; inputs = records; accepted = a; faulty = faulty })
   by_join names records a (inr (design, j, rest)) = by_network names records design a j rest
 

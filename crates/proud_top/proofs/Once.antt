@@ -15,7 +15,7 @@ use Rattle.book_files.specs.WeightRules.{weights_grammar}
 use Rattle.book_files.specs.PlaceRules.{places_grammar}
 use Rattle.book_files.specs.RowRules.{rows_grammar}
 use Rattle.book_files.specs.Loading.{most_bytes}
-use Rattle.book_design.specs.Files.{Files}
+use Rattle.book_design.specs.Records.{Records}
 use Rattle.book_design.specs.Values.{DesignValue}
 use Rattle.book_design.specs.Answers.{HasOneJoin}
 use Rattle.net_model.specs.Answers.{HasOneNetwork}
@@ -32,7 +32,7 @@ pub record OneAnswer : Type 0 where
   pub wts : (text : List ℕ) → HasOneAnswer weights_grammar text
   pub pl : (text : List ℕ) → HasOneAnswer places_grammar text
   pub scl : (text : List ℕ) → HasOneAnswer rows_grammar text
-  pub join : (files : Files) → HasOneJoin files
+  pub join : (files : Records) → HasOneJoin files
   pub network : (design : DesignValue) → HasOneNetwork design
 
 one_text : (a b : List ℕ) → Some a ≡ Some b → a ≡ b
@@ -76,7 +76,7 @@ weights_clean one files word name (Some given) (Some weights) h e =
     let P : List ℕ → Type 0 = λ n. IsClean files n Wts in
     subst P same (record { text = h.text; there = h.there; short = h.short; clean = λ fault bad. (one.wts h.text).not_both weights fault h.reading bad })
 
-accepted_clean : OneAnswer → (files : List FileEntry) (word : List ℕ) (names : AuxEntry) (inputs : Files) (kind : FileKind) (name : List ℕ)
+accepted_clean : OneAnswer → (files : List FileEntry) (word : List ℕ) (names : AuxEntry) (inputs : Records) (kind : FileKind) (name : List ℕ)
     → IsAccepted files word names inputs kind → name_of word names kind ≡ Some name → IsClean files name kind
 accepted_clean one files word names inputs Aux name h e =
     let P : List ℕ → Type 0 = λ n. IsClean files n Aux in
@@ -152,7 +152,7 @@ bad_stops files word kind fault h = record {
   unclean = record { text = h.text; there = h.there; unclean = λ short. (fault, h.faulty) };
 }
 
-no_stop : OneAnswer → (files : List FileEntry) (word : List ℕ) (kind : FileKind) (names : AuxEntry) (inputs : Files)
+no_stop : OneAnswer → (files : List FileEntry) (word : List ℕ) (kind : FileKind) (names : AuxEntry) (inputs : Records)
     → StopsAt files word kind → Reads files word aux_grammar names → IsAccepted files word names inputs kind → ⊥
 no_stop one files word kind names inputs h aux accepted =
     let named = same_name one files word kind names h.name h.place h.reached aux in
@@ -192,7 +192,7 @@ stops_once one files word a b h k = by_order (cases_order (rank a) (rank b)) whe
   by_order (inr (inl before)) = absurd (earlier one files word a b h k before)
   by_order (inr (inr behind)) = absurd (earlier one files word b a k h behind)
 
-pub accepts_kind : (files : List FileEntry) (word : List ℕ) (names : AuxEntry) (inputs : Files) (kind : FileKind) → Accepts files word names inputs → IsAccepted files word names inputs kind
+pub accepts_kind : (files : List FileEntry) (word : List ℕ) (names : AuxEntry) (inputs : Records) (kind : FileKind) → Accepts files word names inputs → IsAccepted files word names inputs kind
 accepts_kind files word names inputs Aux h = h.aux
 accepts_kind files word names inputs Nodes h = h.nodes
 accepts_kind files word names inputs Nets h = h.nets
@@ -201,7 +201,7 @@ accepts_kind files word names inputs Pl h = h.pl
 accepts_kind files word names inputs Scl h = h.scl
 
 -- where all files are accepted none is the first that isn't
-pub accepts_all : OneAnswer → (files : List FileEntry) (word : List ℕ) (names : AuxEntry) (inputs : Files) (kind : FileKind) → Accepts files word names inputs → StopsAt files word kind → ⊥
+pub accepts_all : OneAnswer → (files : List FileEntry) (word : List ℕ) (names : AuxEntry) (inputs : Records) (kind : FileKind) → Accepts files word names inputs → StopsAt files word kind → ⊥
 accepts_all one files word names inputs kind h k = no_stop one files word kind names inputs k h.aux (accepts_kind files word names inputs kind h)
 
 weights_once : OneAnswer → (files : List FileEntry) (word : List ℕ) (wts : Option (List ℕ)) (a b : Option (List WeightEntry)) → ReadsWeights files word wts a → ReadsWeights files word wts b → a ≡ b
@@ -213,7 +213,7 @@ weights_once one files word (Some name) (Some a) None h k = absurd k
 weights_once one files word (Some name) (Some a) (Some b) h k = ap Some (same_records weights_grammar one.wts files (beside word name) a b h k)
 
 -- records that are equal one by one are equal together
-pub same_files : (x y : Files) → x.nodes ≡ y.nodes → x.nets ≡ y.nets → x.weights ≡ y.weights → x.places ≡ y.places → x.rows ≡ y.rows → x ≡ y
+pub same_files : (x y : Records) → x.nodes ≡ y.nodes → x.nets ≡ y.nets → x.weights ≡ y.weights → x.places ≡ y.places → x.rows ≡ y.rows → x ≡ y
 same_files x y n t w p r =
     let A : List NodeEntry → Type 0 = λ v. x ≡ record { nodes = v; nets = x.nets; weights = x.weights; places = x.places; rows = x.rows } in
     let B : List NetEntry → Type 0 = λ v. x ≡ record { nodes = y.nodes; nets = v; weights = x.weights; places = x.places; rows = x.rows } in
@@ -223,7 +223,7 @@ same_files x y n t w p r =
     subst E r (subst D p (subst C w (subst B t (subst A n refl))))
 
 -- accepted files hold one list of records each
-pub accepts_once : OneAnswer → (files : List FileEntry) (word : List ℕ) (a b : AuxEntry) (x y : Files) → Accepts files word a x → Accepts files word b y → x ≡ y
+pub accepts_once : OneAnswer → (files : List FileEntry) (word : List ℕ) (a b : AuxEntry) (x y : Records) → Accepts files word a x → Accepts files word b y → x ≡ y
 accepts_once one files word a b x y h k =
     let same : a ≡ b = same_records aux_grammar one.aux files word a b h.aux k.aux in
     let P : AuxEntry → Type 0 = λ n. Accepts files word n x in

@@ -3,7 +3,7 @@ use Rattle.std.proofs.Common.{◌≡◌, ℕ, List, length, sym, ◌∙◌, ap, 
 use Rattle.std.proofs.lemmas.List.{ext_get_or}
 use Rattle.book_outer.specs.Files.{FileEntry}
 use Rattle.relax_system.specs.Means.{AtMost}
-use Rattle.book_design.specs.Files.{Files}
+use Rattle.book_design.specs.Records.{Records}
 use Rattle.book_design.specs.Values.{DesignValue}
 use Rattle.net_model.specs.Values.{NetworkValue}
 use Rattle.core_system.specs.declared.axis.Axis.{Axis}
@@ -35,7 +35,7 @@ one_design_report one design a b h k =
 pub one_report : OneAnswer → (files : List FileEntry) (word a b : List ℕ) → IsReportOf files word a → IsReportOf files word b → a ≡ b
 one_report one files word a b h k =
     let inputs : h.inputs ≡ k.inputs = accepts_once one files word h.names k.names h.inputs k.inputs h.accepted k.accepted in
-    let Reported : Files → Type 0 = λ records. IsReportText records a in
+    let Reported : Records → Type 0 = λ records. IsReportText records a in
     let own : IsReportText k.inputs a = subst Reported inputs h.reported in
     let designs : own.design ≡ k.reported.design = (one.join k.inputs).one_design own.design k.reported.design own.joined k.reported.joined in
     let Told : DesignValue → Type 0 = λ design. IsDesignReport design a in

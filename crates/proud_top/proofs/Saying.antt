@@ -7,7 +7,7 @@ use Rattle.book_outer.specs.Files.{FileEntry}
 use Rattle.book_outer.specs.State.{FolderState, SinkState}
 use Rattle.book_files.specs.declared.records.FileKind.{FileKind}
 use Rattle.book_files.specs.declared.records.FileKind.TheVariants.{Scl}
-use Rattle.book_design.specs.Files.{Files}
+use Rattle.book_design.specs.Records.{Records}
 use Rattle.proud_top.specs.declared.status.Refusal.{Refusal}
 use Rattle.proud_top.specs.declared.status.Refusal.TheVariants.{TooLong, Text, Design, Net, Unanchored}
 use Rattle.proud_top.specs.declared.status.Status.{Status}
@@ -65,7 +65,7 @@ says words f f' s s' status result text due other (inr (inr put)) =
     subst P (sym put.0) (inr (status, text, due, put.1))
 
 -- what the run up to the report gave, as what is due
-flow_of_records : (records : Files) (text : List ℕ) → IsReportText records text → places_records records (Ok text)
+flow_of_records : (records : Records) (text : List ℕ) → IsReportText records text → places_records records (Ok text)
 flow_of_records records text h =
     let d = h.reported in
     (h.design, h.joined, (d.network, d.made, (tt, d.chains, (record { x = d.x; y = d.y }, record { x = d.x_solved; y = d.y_solved }, d.told))))

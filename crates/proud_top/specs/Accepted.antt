@@ -13,7 +13,7 @@ use Rattle.book_files.specs.WeightRules.{weights_grammar}
 use Rattle.book_files.specs.PlaceRules.{places_grammar}
 use Rattle.book_files.specs.RowRules.{rows_grammar}
 use Rattle.book_files.specs.Loading.{most_bytes}
-use Rattle.book_design.specs.Files.{Files}
+use Rattle.book_design.specs.Records.{Records}
 use Rattle.proud_top.specs.Request.{beside}
 use Rattle.proud_top.specs.Order.{rank, name_of, place_of}
 
@@ -32,7 +32,7 @@ ReadsWeights files word (Some name) None = ⊥
 ReadsWeights files word (Some name) (Some weights) = Reads files (beside word name) weights_grammar weights
 
 -- the aux file and the files that it names are accepted, and hold these records
-pub record Accepts (files : List FileEntry) (word : List ℕ) (names : AuxEntry) (inputs : Files) : Type 0 where
+pub record Accepts (files : List FileEntry) (word : List ℕ) (names : AuxEntry) (inputs : Records) : Type 0 where
   pub aux : Reads files word aux_grammar names
   pub nodes : Reads files (beside word names.nodes) nodes_grammar inputs.nodes
   pub nets : Reads files (beside word names.nets) nets_grammar inputs.nets
@@ -41,7 +41,7 @@ pub record Accepts (files : List FileEntry) (word : List ℕ) (names : AuxEntry)
   pub scl : Reads files (beside word names.scl) rows_grammar inputs.rows
 
 -- the file of the kind alone is accepted
-abbrev pub IsAccepted : List FileEntry → List ℕ → AuxEntry → Files → FileKind → Type 0
+abbrev pub IsAccepted : List FileEntry → List ℕ → AuxEntry → Records → FileKind → Type 0
 IsAccepted files word names inputs Aux = Reads files word aux_grammar names
 IsAccepted files word names inputs Nodes = Reads files (beside word names.nodes) nodes_grammar inputs.nodes
 IsAccepted files word names inputs Nets = Reads files (beside word names.nets) nets_grammar inputs.nets
@@ -53,7 +53,7 @@ IsAccepted files word names inputs Scl = Reads files (beside word names.scl) row
 -- files that are read, counted from 1.
 pub record IsReached (files : List FileEntry) (word : List ℕ) (kind : FileKind) (name : List ℕ) (place : ℕ) : Type 0 where
   pub names : AuxEntry
-  pub inputs : Files
+  pub inputs : Records
   pub accepted : (before : FileKind) → rank before < rank kind → IsAccepted files word names inputs before
   pub named : name_of word names kind ≡ Some name
   pub placed : place ≡ place_of names kind

@@ -3,7 +3,7 @@ use Rattle.std.specs.Prelude.{◌≡◌, ◌⊎◌, ℕ, ◌<◌, List, length, 
 use Rattle.book_outer.specs.Files.{FileEntry}
 use Rattle.book_files.specs.Entries.{AuxEntry}
 use Rattle.book_design.specs.declared.fault.DesignFault.{DesignFault}
-use Rattle.book_design.specs.Files.{Files}
+use Rattle.book_design.specs.Records.{Records}
 use Rattle.book_design.specs.Values.{DesignValue}
 use Rattle.book_design.specs.Faults.{IsFirstFault}
 use Rattle.book_design.specs.Answers.{IsJoined}
@@ -28,7 +28,7 @@ abbrev pub ◌then◌ : {B C : Type 0} → (Result B Refusal → Type 0) → (B 
 ◌then◌ {B = B} first next (Err refusal) = first (Err refusal) ⊎ ((middle : B) × first (Ok middle) × next middle (Err refusal))
 
 -- The records that the design's files hold; or the first file that is too long, or whose text has a fault.
-abbrev pub reads_known : List FileEntry → List ℕ → Result Files Refusal → Type 0
+abbrev pub reads_known : List FileEntry → List ℕ → Result Records Refusal → Type 0
 reads_known files word (Ok records) = (names : AuxEntry) × Accepts files word names records
 reads_known files word (Err (TooLong kind)) = IsTooLong files word kind
 reads_known files word (Err (Text kind fault)) = IsBadText files word kind fault
@@ -37,12 +37,12 @@ reads_known files word (Err (Net fault)) = ⊥
 reads_known files word (Err (Unanchored point)) = ⊥
 
 -- the same of a folder whose files may be unknown: then nothing is said of them
-abbrev pub reads : Option (List FileEntry) → List ℕ → Result Files Refusal → Type 0
+abbrev pub reads : Option (List FileEntry) → List ℕ → Result Records Refusal → Type 0
 reads None word result = Unit {0}
 reads (Some files) word result = reads_known files word result
 
 -- the design that the records make, or their first fault
-abbrev pub joins : Files → Result DesignValue Refusal → Type 0
+abbrev pub joins : Records → Result DesignValue Refusal → Type 0
 joins records (Ok design) = IsJoined records design
 joins records (Err refusal) = (fault : DesignFault) × (refusal ≡ Design fault) × IsFirstFault records fault
 
@@ -77,7 +77,7 @@ reports design solved (Err refusal) = ⊥
 abbrev pub places_design : DesignValue → Result (List ℕ) Refusal → Type 0
 places_design design = wires design then λ network. reaches network then λ done. solves network then λ solved. reports design solved
 
-abbrev pub places_records : Files → Result (List ℕ) Refusal → Type 0
+abbrev pub places_records : Records → Result (List ℕ) Refusal → Type 0
 places_records records = joins records then places_design
 
 -- The whole flow: the report of what the design's files make, or the refusal at the first step that stops.

@@ -1,7 +1,7 @@
 -- Which stop of the flow the error of each layer is, and what the steps from the records on answer.
 use Rattle.std.specs.Prelude.{ℕ, List, Result, Ok, Err, Vec}
 use Rattle.std.specs.declared.alloc.Global.{Global}
-use Rattle.book_design.specs.Files.{Files}
+use Rattle.book_design.specs.Records.{Records}
 use Rattle.book_design.specs.declared.fault.JoinError.{JoinError}
 use Rattle.book_design.specs.declared.fault.JoinError.TheVariants as join_error
 use Rattle.net_model.specs.declared.fault.NetError.{NetError}
@@ -27,7 +27,7 @@ halt_of_reach (reach_error.Unanchored point) = Refused (Unanchored point)
 halt_of_reach reach_error.Memory = Memory
 
 -- the report that the flow ends with, or the refusal that stops it
-abbrev pub Places : Files → Result (Vec ℕ Global) Halt → Type 0
+abbrev pub Places : Records → Result (Vec ℕ Global) Halt → Type 0
 Places records (Ok text) = places_records records (Ok text.items)
 Places records (Err (Refused refusal)) = places_records records (Err refusal)
 Places records (Err Memory) = Unit {0}

@@ -12,7 +12,7 @@ use Rattle.book_files.specs.WeightRules.{weights_grammar}
 use Rattle.book_files.specs.PlaceRules.{places_grammar}
 use Rattle.book_files.specs.RowRules.{rows_grammar}
 use Rattle.book_files.specs.Loading.{most_bytes}
-use Rattle.book_design.specs.Files.{Files}
+use Rattle.book_design.specs.Records.{Records}
 use Rattle.book_design.specs.Values.{DesignValue}
 use Rattle.proud_top.specs.declared.halt.Halt.{Halt}
 use Rattle.proud_top.specs.declared.halt.Halt.TheVariants.{Refused, Memory}
@@ -56,7 +56,7 @@ AreWeights (Some text) None = ⊥
 AreWeights (Some text) (Some weights) = IsReading weights_grammar text weights
 
 -- the records as which the texts read
-pub record AreRecords (texts : Texts) (records : Files) : Type 0 where
+pub record AreRecords (texts : Texts) (records : Records) : Type 0 where
   pub nodes : IsReading nodes_grammar texts.nodes records.nodes
   pub nets : IsReading nets_grammar texts.nets records.nets
   pub weights : AreWeights texts.wts records.weights
@@ -65,6 +65,6 @@ pub record AreRecords (texts : Texts) (records : Files) : Type 0 where
 
 -- the design that the texts' records make, or their first fault
 abbrev pub Designs : Texts → Result DesignValue Halt → Type 0
-Designs texts (Ok design) = (records : Files) × AreRecords texts records × joins records (Ok design)
-Designs texts (Err (Refused refusal)) = (records : Files) × AreRecords texts records × joins records (Err refusal)
+Designs texts (Ok design) = (records : Records) × AreRecords texts records × joins records (Ok design)
+Designs texts (Err (Refused refusal)) = (records : Records) × AreRecords texts records × joins records (Err refusal)
 Designs texts (Err Memory) = Unit {0}

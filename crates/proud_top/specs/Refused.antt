@@ -9,7 +9,7 @@ use Rattle.book_files.specs.AuxRules.{aux_grammar}
 use Rattle.book_files.specs.Loading.{most_bytes, HasLongText}
 use Rattle.book_design.specs.declared.fault.DesignFault.{DesignFault}
 use Rattle.book_design.specs.declared.fault.DesignFault.TheVariants.{DuplicateName, UnknownName, NoPosition, NoRows, MixedRows, RowsOverlap, TallCell, Limit}
-use Rattle.book_design.specs.Files.{Files}
+use Rattle.book_design.specs.Records.{Records}
 use Rattle.book_design.specs.Values.{DesignValue}
 use Rattle.book_design.specs.Faults.{IsFirstFault}
 use Rattle.book_design.specs.Answers.{IsJoined}
@@ -45,14 +45,14 @@ pub record IsBadText (files : List FileEntry) (word : List ℕ) (kind : FileKind
 -- all files are accepted, and together have this first fault
 pub record IsDesignFault (files : List FileEntry) (word : List ℕ) (fault : DesignFault) : Type 0 where
   pub names : AuxEntry
-  pub inputs : Files
+  pub inputs : Records
   pub accepted : Accepts files word names inputs
   pub faulty : IsFirstFault inputs fault
 
 -- the files make a design whose nets have this first fault
 pub record IsNetFault (files : List FileEntry) (word : List ℕ) (fault : NetFault) : Type 0 where
   pub names : AuxEntry
-  pub inputs : Files
+  pub inputs : Records
   pub design : DesignValue
   pub accepted : Accepts files word names inputs
   pub joined : IsJoined inputs design
@@ -62,7 +62,7 @@ pub record IsNetFault (files : List FileEntry) (word : List ℕ) (fault : NetFau
 -- point before it one does.
 pub record IsUnanchored (files : List FileEntry) (word : List ℕ) (point : ℕ) : Type 0 where
   pub names : AuxEntry
-  pub inputs : Files
+  pub inputs : Records
   pub design : DesignValue
   pub network : NetworkValue
   pub accepted : Accepts files word names inputs
@@ -112,7 +112,7 @@ pub record HasNodeNamed (files : List FileEntry) (word : List ℕ) (number : ℕ
 -- the point of the design that the accepted files make is a node of this name
 pub record HasPointNamed (files : List FileEntry) (word : List ℕ) (point : ℕ) (name : List ℕ) : Type 0 where
   pub names : AuxEntry
-  pub inputs : Files
+  pub inputs : Records
   pub design : DesignValue
   pub i : ℕ
   pub accepted : Accepts files word names inputs

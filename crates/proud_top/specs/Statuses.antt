@@ -7,7 +7,7 @@ use Rattle.book_outer.specs.State.{FolderState, SinkState}
 use Rattle.book_files.specs.declared.records.FileKind.{FileKind}
 use Rattle.book_files.specs.declared.records.FileKind.TheVariants.{Scl}
 use Rattle.book_files.specs.Entries.{AuxEntry}
-use Rattle.book_design.specs.Files.{Files}
+use Rattle.book_design.specs.Records.{Records}
 use Rattle.book_design.specs.Values.{DesignValue}
 use Rattle.book_design.specs.Answers.{IsJoined}
 use Rattle.pad_reach.specs.Chain.{HasChain}
@@ -132,7 +132,7 @@ Puts text done failed old new result = ((result ≡ done) × Appends old.written
 pub record IsPlaceable (words : List (List ℕ)) (files : List FileEntry) : Type 0 where
   pub word : List ℕ
   pub names : AuxEntry
-  pub records : Files
+  pub records : Records
   pub design : DesignValue
   pub network : NetworkValue
   pub asked : requested words ≡ Some word

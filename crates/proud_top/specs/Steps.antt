@@ -11,7 +11,7 @@ use Rattle.book_files.specs.declared.fault.ReadError.{ReadError}
 use Rattle.book_files.specs.declared.fault.ReadError.TheVariants as read_error
 use Rattle.book_files.specs.Loading.{most_bytes, HasLongText}
 use Rattle.book_design.specs.declared.fault.DesignFault.{DesignFault}
-use Rattle.book_design.specs.Files.{Files}
+use Rattle.book_design.specs.Records.{Records}
 use Rattle.book_design.specs.Values.{DesignValue}
 use Rattle.book_design.specs.Faults.{IsFirstFault}
 use Rattle.book_design.specs.Answers.{IsJoined}
@@ -93,7 +93,7 @@ abbrev pub IsNameIn : List NodeEntry → List ℕ → ℕ → Type 0
 IsNameIn nodes name number = (node : NodeEntry) × (slice_get nodes number ≡ Some node) × (name ≡ node.name)
 
 -- the files together have this first fault, and the name is that of the node that it names
-pub record IsFaultNamed (inputs : Files) (fault : DesignFault) (name : List ℕ) : Type 0 where
+pub record IsFaultNamed (inputs : Records) (fault : DesignFault) (name : List ℕ) : Type 0 where
   pub faulty : IsFirstFault inputs fault
   pub named : IfSome (node_of_fault fault) (IsNameIn inputs.nodes name)
 
@@ -128,13 +128,13 @@ IsDesignRefusal design (TooLong kind) name = ⊥
 IsDesignRefusal design (Text kind fault) name = ⊥
 
 -- the records make a design that is refused by this
-pub record IsJoinRefused (inputs : Files) (refusal : Refusal) (name : List ℕ) : Type 0 where
+pub record IsJoinRefused (inputs : Records) (refusal : Refusal) (name : List ℕ) : Type 0 where
   pub design : DesignValue
   pub joined : IsJoined inputs design
   pub refused : IsDesignRefusal design refusal name
 
 -- a refusal of what the records make
-abbrev pub IsRefusalOf : Files → Refusal → List ℕ → Type 0
+abbrev pub IsRefusalOf : Records → Refusal → List ℕ → Type 0
 IsRefusalOf inputs (Design fault) name = IsFaultNamed inputs fault name
 IsRefusalOf inputs (Net fault) name = IsJoinRefused inputs (Net fault) name
 IsRefusalOf inputs (Unanchored point) name = IsJoinRefused inputs (Unanchored point) name
@@ -159,7 +159,7 @@ SolvesDesign design (Ok text) = IsDesignReport design text.items
 SolvesDesign design (Err stop) = StopsDesign design stop
 
 -- the report of what the records make, or why that is refused
-abbrev pub Solves : Files → Result (Vec ℕ Global) Stop → Type 0
+abbrev pub Solves : Records → Result (Vec ℕ Global) Stop → Type 0
 Solves inputs (Ok text) = IsReportText inputs text.items
 Solves inputs (Err (Refused refusal name)) = IsRefusalOf inputs refusal name.items
 Solves inputs (Err (Unread kind)) = ⊥

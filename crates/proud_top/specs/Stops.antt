@@ -8,7 +8,7 @@ use Rattle.relax_system.specs.Extremal.{IsLeast, IsGreatest}
 use Rattle.relax_system.specs.Exact.{IsExact, IsBetween}
 use Rattle.book_files.specs.declared.records.FileKind.TheVariants.{Scl}
 use Rattle.book_files.specs.Entries.{AuxEntry}
-use Rattle.book_design.specs.Files.{Files}
+use Rattle.book_design.specs.Records.{Records}
 use Rattle.book_design.specs.Values.{DesignValue}
 use Rattle.book_design.specs.Answers.{IsJoined}
 use Rattle.pad_reach.specs.Chain.{HasChain}
@@ -49,20 +49,20 @@ pub record IsDesignReport (design : DesignValue) (text : List ℕ) : Type 0 wher
   pub told : text ≡ report_of design x y
 
 -- the text is the report of the design that these records make
-pub record IsReportText (inputs : Files) (text : List ℕ) : Type 0 where
+pub record IsReportText (inputs : Records) (text : List ℕ) : Type 0 where
   pub design : DesignValue
   pub joined : IsJoined inputs design
   pub reported : IsDesignReport design text
 
 -- The text is the report of a design that some records make. This holds where the files aren't told, too.
 pub record IsSomeReport (text : List ℕ) : Type 0 where
-  pub inputs : Files
+  pub inputs : Records
   pub reported : IsReportText inputs text
 
 -- the text is the report of the design that the files make
 pub record IsReportOf (files : List FileEntry) (word text : List ℕ) : Type 0 where
   pub names : AuxEntry
-  pub inputs : Files
+  pub inputs : Records
   pub accepted : Accepts files word names inputs
   pub reported : IsReportText inputs text
 

@@ -11,7 +11,7 @@ ghost use Rattle.book_files.specs.NetRules.{nets_grammar};
 ghost use Rattle.book_files.specs.WeightRules.{weights_grammar};
 ghost use Rattle.book_files.specs.PlaceRules.{places_grammar};
 ghost use Rattle.book_files.specs.RowRules.{rows_grammar};
-ghost use Rattle.book_design.specs.Files.{Files};
+ghost use Rattle.book_design.specs.Records.{Records};
 ghost use Rattle.book_design.specs.Values.{DesignValue};
 ghost use Rattle.book_design.specs.Answers.{HasOneJoin};
 ghost use Rattle.net_model.specs.Values.{NetworkValue};
@@ -34,7 +34,7 @@ pub(crate) fn laws()
     ensures wts { (text : List ℕ) → HasOneAnswer weights_grammar text }
     ensures pl { (text : List ℕ) → HasOneAnswer places_grammar text }
     ensures scl { (text : List ℕ) → HasOneAnswer rows_grammar text }
-    ensures join { (files : Files) → HasOneJoin files }
+    ensures join { (files : Records) → HasOneJoin files }
     ensures network { (design : DesignValue) → HasOneNetwork design }
 {
     one_answer();

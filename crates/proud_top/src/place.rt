@@ -1,7 +1,7 @@
 //! The steps from the records of a design's files to its report.
 
 ghost use Rattle.std.specs.Prelude.{◌≡◌, ◌^◌, ◌<◌, length, option_map};
-ghost use Rattle.book_design.specs.Files.{Files};
+ghost use Rattle.book_design.specs.Records.{Records};
 ghost use Rattle.proud_top.specs.Halts.{Places};
 
 use crate::crew::Crew;

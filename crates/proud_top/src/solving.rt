@@ -3,7 +3,7 @@
 ghost use Rattle.std.specs.Prelude.{◌≡◌, ℕ, ◌<◌, ◌^◌, IfOk, IfSome, length, option_map};
 ghost use Rattle.std.specs.List.{count_by};
 ghost use Rattle.book_files.specs.Entries.{node_entries};
-ghost use Rattle.book_design.specs.Files.{Files};
+ghost use Rattle.book_design.specs.Records.{Records};
 ghost use Rattle.book_design.specs.Points.{is_movable};
 ghost use Rattle.pad_reach.specs.Chain.{HasChain};
 ghost use Rattle.net_model.specs.Network.{IsNetwork, IsFirstFault};

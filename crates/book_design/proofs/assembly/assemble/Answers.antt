@@ -6,7 +6,7 @@ use Rattle.book_design.specs.declared.parts.Net.{Net}
 use Rattle.book_design.specs.declared.parts.Subrow.{Subrow}
 use Rattle.book_design.specs.declared.parts.Core.{Core}
 use Rattle.book_design.specs.declared.rows.RowShape.{RowShape}
-use Rattle.book_design.specs.Files.{Files, row_at}
+use Rattle.book_design.specs.Records.{Records, row_at}
 use Rattle.book_design.specs.Values.{node_values}
 use Rattle.book_design.specs.Nets.{net_values}
 use Rattle.book_design.specs.WellFormed.{IsDesign}
@@ -21,7 +21,7 @@ use Rattle.book_design.proofs.AssemblyPoints.{kept_whole, node_count}
 use Rattle.book_design.proofs.AssemblyDesign.{made, is_design, joins}
 use Rattle.book_design.proofs.assembly.assemble.Goals as goal
 
-narrow : (files : Files) (kept : List Kept) (height : ℤ) → AreInRange files → IsFreeFrom files 1 14 → kept ≡ outlines files → height ≡ (row_at files 0).height → AreNarrow (to_z w64 (of_z w64 height)) kept
+narrow : (files : Records) (kept : List Kept) (height : ℤ) → AreInRange files → IsFreeFrom files 1 14 → kept ≡ outlines files → height ≡ (row_at files 0).height → AreNarrow (to_z w64 (of_z w64 height)) kept
 narrow files kept height ranges free e f =
     let row = first_row files ranges free in
     let R : ℤ → Type 0 = λ z. IsInRange z in
@@ -50,7 +50,7 @@ point_lists-requires c =
     let e = ap length c.deref.ensures.value in
     omega arith
 
-core_kept : (files : Files) (kept : List Kept) (height : ℤ) (core : Core) → AreInRange files → IsFreeFrom files 1 14 → kept ≡ outlines files → height ≡ (row_at files 0).height → IsCoreOf (to_z w64 (of_z w64 height)) kept (length kept) core → IsCoreOf (row_at files 0).height (outlines files) (length (outlines files)) core
+core_kept : (files : Records) (kept : List Kept) (height : ℤ) (core : Core) → AreInRange files → IsFreeFrom files 1 14 → kept ≡ outlines files → height ≡ (row_at files 0).height → IsCoreOf (to_z w64 (of_z w64 height)) kept (length kept) core → IsCoreOf (row_at files 0).height (outlines files) (length (outlines files)) core
 core_kept files kept height core ranges free e f h =
     let row = first_row files ranges free in
     let R : ℤ → Type 0 = λ z. IsInRange z in
@@ -59,7 +59,7 @@ core_kept files kept height core ranges free e f h =
     let Q : List Kept → Type 0 = λ k. IsCoreOf (row_at files 0).height k (length k) core in
     subst Q e (subst P whole h)
 
-assembled : (files : Files) (nodes : List Node) (nets : List Net) (kept : List Kept) (subrows : List Subrow) (core : Core) (shape : RowShape) → node_values nodes ≡ map (joined_node files) files.nodes → net_values nets ≡ map (pinned_net files) files.nets → kept ≡ outlines files → subrows ≡ map joined_kept kept → IsShape files shape → design_value nodes nets subrows core shape ≡ made files core
+assembled : (files : Records) (nodes : List Node) (nets : List Net) (kept : List Kept) (subrows : List Subrow) (core : Core) (shape : RowShape) → node_values nodes ≡ map (joined_node files) files.nodes → net_values nets ≡ map (pinned_net files) files.nets → kept ≡ outlines files → subrows ≡ map joined_kept kept → IsShape files shape → design_value nodes nets subrows core shape ≡ made files core
 assembled files nodes nets kept subrows core shape e f g h s =
     let rows : subrows ≡ map joined_kept (outlines files) = h ∙ ap (λ (k : List Kept). map joined_kept k) g in
     λ i. record { nodes = e i; nets = f i; subrows = rows i; core = core; pitch = s.pitch i; row_height = s.height i }

@@ -3,7 +3,7 @@ use Rattle.std.proofs.lemmas.List.{get_or-map}
 use Rattle.book_files.specs.declared.records.RowBlock.{RowBlock}
 use Rattle.book_files.specs.Entries.{RowEntry}
 use Rattle.book_files.specs.Blocks.{row_entry}
-use Rattle.book_design.specs.Files.{row_at}
+use Rattle.book_design.specs.Records.{row_at}
 use Rattle.book_design.specs.Sources.{files_of}
 use Rattle.book_design.specs.ValueLimits.{EndsHigh}
 use Rattle.book_design.proofs.limits.high_row.Goals as goal

@@ -2,7 +2,7 @@ use Rattle.std.proofs.Common.{◌≡◌, ◌∙◌, sym, ap, below_more}
 use Rattle.std.proofs.lemmas.List.{get_or-map}
 use Rattle.book_files.specs.declared.records.RowBlock.{RowBlock}
 use Rattle.book_files.specs.Blocks.{row_entry}
-use Rattle.book_design.specs.Files.{row_at}
+use Rattle.book_design.specs.Records.{row_at}
 use Rattle.book_design.specs.Sources.{files_of}
 use Rattle.book_design.proofs.RowsEven.{not_mixed}
 use Rattle.book_design.proofs.rows.mixed_row.Goals as goal

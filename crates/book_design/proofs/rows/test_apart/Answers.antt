@@ -2,7 +2,7 @@ use Rattle.std.proofs.Common.{◌≡◌, ℕ, ℤ, List, Option, sym, subst, ari
 use Rattle.std.proofs.lemmas.Int.{ints}
 use Rattle.std.specs.List.{AllByRecursion}
 use Rattle.book_design.specs.declared.strips.Strip.{Strip as Kept}
-use Rattle.book_design.specs.Files.{Strip, row_at}
+use Rattle.book_design.specs.Records.{Strip, row_at}
 use Rattle.book_design.specs.Faults.{IsOverlapping}
 use Rattle.book_design.specs.Sources.{files_of}
 use Rattle.book_design.specs.Strips.{strip_values, IsStripInRange, IsFirstOverlap}

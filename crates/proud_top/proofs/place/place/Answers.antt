@@ -3,7 +3,7 @@ use Rattle.std.specs.Prelude.{Vec}
 use Rattle.std.specs.declared.alloc.Global.{Global}
 use Rattle.std.proofs.lemmas.List.{length-map}
 use Rattle.std.proofs.lemmas.Result.{err_from_is_err_and}
-use Rattle.book_design.specs.Files.{Files}
+use Rattle.book_design.specs.Records.{Records}
 use Rattle.book_design.specs.Values.{DesignValue}
 use Rattle.book_design.specs.Answers.{IsJoined}
 use Rattle.pad_reach.specs.Chain.{HasChain}
@@ -26,7 +26,7 @@ pub report_text-requires-clause-y : goal.report_text-requires-clause-y
 report_text-requires-clause-y g c = rw c.nodes.ensures.nodes (solve_over Y c.in_ok-design.design c.in_ok-network.network _ c.in_ok-network.ensures c.in_ok-y.ensures)
 
 -- the search for pads stopped the flow
-reach_stops : (records : Files) (design : DesignValue) (network : NetworkValue) (error : ReachError) → IsJoined records design → IsNetwork design network
+reach_stops : (records : Records) (design : DesignValue) (network : NetworkValue) (error : ReachError) → IsJoined records design → IsNetwork design network
     → IsRefusal (joints_of network) error → Places records (Err (halt_of_reach error))
 reach_stops records design network (reach_error.Unanchored point) joined made first = inr (design, joined, inr (network, made, inl (point, refl, first)))
 reach_stops records design network reach_error.Memory joined made first = tt

@@ -8,7 +8,7 @@ use Rattle.book_files.specs.NodeRules.{nodes_grammar}
 use Rattle.book_files.specs.NetRules.{nets_grammar}
 use Rattle.book_files.specs.PlaceRules.{places_grammar}
 use Rattle.book_files.specs.RowRules.{rows_grammar}
-use Rattle.book_design.specs.Files.{Files}
+use Rattle.book_design.specs.Records.{Records}
 use Rattle.proud_top.specs.Request.{beside}
 use Rattle.proud_top.specs.Order.{weight_files}
 use Rattle.proud_top.specs.Counts.{Counts}
@@ -23,7 +23,7 @@ returns-in_err-text-clause-places g c =
     let word = c.args.word.now in
     let start : Counts = record { begun = (g.F.Folder.state c.args.folder.now).begun; missed = (g.F.Folder.state c.args.folder.now).missed; faults = (g.F.Folder.state c.args.folder.now).read_faults } in
     let names : AuxEntry = record { nodes = []; nets = []; wts = None; pl = []; scl = [] } in
-    let inputs : Files = record { nodes = []; nets = []; weights = None; places = []; rows = [] } in
+    let inputs : Records = record { nodes = []; nets = []; weights = None; places = []; rows = [] } in
     let f0 = front_first files word names inputs start in
     let stop = c.in_err-text.field-0.0 in
     let p = err_from_is_err_and c.from_residual.result c.from_residual.ensures.1 in
@@ -36,7 +36,7 @@ returns-in_err-names-clause-places g c =
     let word = c.args.word.now in
     let start : Counts = record { begun = (g.F.Folder.state c.args.folder.now).begun; missed = (g.F.Folder.state c.args.folder.now).missed; faults = (g.F.Folder.state c.args.folder.now).read_faults } in
     let names : AuxEntry = record { nodes = []; nets = []; wts = None; pl = []; scl = [] } in
-    let inputs : Files = record { nodes = []; nets = []; weights = None; places = []; rows = [] } in
+    let inputs : Records = record { nodes = []; nets = []; weights = None; places = []; rows = [] } in
     let f0 = front_first files word names inputs start in
     let stop = c.in_err-names.field-0.0 in
     let p = err_from_is_err_and c.from_residual-in_err-names.result c.from_residual-in_err-names.ensures.1 in
@@ -50,7 +50,7 @@ returns-in_err-node_text-clause-places g c =
     let word = c.args.word.now in
     let start : Counts = record { begun = (g.F.Folder.state c.args.folder.now).begun; missed = (g.F.Folder.state c.args.folder.now).missed; faults = (g.F.Folder.state c.args.folder.now).read_faults } in
     let names = aux_entry c.in_ok-names.names in
-    let inputs : Files = record { nodes = []; nets = []; weights = None; places = []; rows = [] } in
+    let inputs : Records = record { nodes = []; nets = []; weights = None; places = []; rows = [] } in
     let f0 = front_first files word names inputs start in
     let f1 = front_next Aux Nodes aux_grammar aux_entry files files word word c.deref.result.now c.in_ok-text.text c.read_aux.result c.in_ok-names.names names inputs start _ _ refl refl (λ told h. h)
     refl f0 c.in_ok-text.ensures.answer c.deref.ensures.value c.read_aux.ensures c.in_ok-names.ensures in
@@ -65,7 +65,7 @@ returns-in_err-nodes-clause-places g c =
     let word = c.args.word.now in
     let start : Counts = record { begun = (g.F.Folder.state c.args.folder.now).begun; missed = (g.F.Folder.state c.args.folder.now).missed; faults = (g.F.Folder.state c.args.folder.now).read_faults } in
     let names = aux_entry c.in_ok-names.names in
-    let inputs : Files = record { nodes = []; nets = []; weights = None; places = []; rows = [] } in
+    let inputs : Records = record { nodes = []; nets = []; weights = None; places = []; rows = [] } in
     let f0 = front_first files word names inputs start in
     let f1 = front_next Aux Nodes aux_grammar aux_entry files files word word c.deref.result.now c.in_ok-text.text c.read_aux.result c.in_ok-names.names names inputs start _ _ refl refl (λ told h. h)
     refl f0 c.in_ok-text.ensures.answer c.deref.ensures.value c.read_aux.ensures c.in_ok-names.ensures in
@@ -81,7 +81,7 @@ returns-in_err-net_text-clause-places g c =
     let word = c.args.word.now in
     let start : Counts = record { begun = (g.F.Folder.state c.args.folder.now).begun; missed = (g.F.Folder.state c.args.folder.now).missed; faults = (g.F.Folder.state c.args.folder.now).read_faults } in
     let names = aux_entry c.in_ok-names.names in
-    let inputs : Files = record { nodes = c.in_ok-nodes.nodes; nets = []; weights = None; places = []; rows = [] } in
+    let inputs : Records = record { nodes = c.in_ok-nodes.nodes; nets = []; weights = None; places = []; rows = [] } in
     let f0 = front_first files word names inputs start in
     let f1 = front_next Aux Nodes aux_grammar aux_entry files files word word c.deref.result.now c.in_ok-text.text c.read_aux.result c.in_ok-names.names names inputs start _ _ refl refl (λ told h. h)
     refl f0 c.in_ok-text.ensures.answer c.deref.ensures.value c.read_aux.ensures c.in_ok-names.ensures in
@@ -98,7 +98,7 @@ returns-in_err-nets-clause-places g c =
     let word = c.args.word.now in
     let start : Counts = record { begun = (g.F.Folder.state c.args.folder.now).begun; missed = (g.F.Folder.state c.args.folder.now).missed; faults = (g.F.Folder.state c.args.folder.now).read_faults } in
     let names = aux_entry c.in_ok-names.names in
-    let inputs : Files = record { nodes = c.in_ok-nodes.nodes; nets = []; weights = None; places = []; rows = [] } in
+    let inputs : Records = record { nodes = c.in_ok-nodes.nodes; nets = []; weights = None; places = []; rows = [] } in
     let f0 = front_first files word names inputs start in
     let f1 = front_next Aux Nodes aux_grammar aux_entry files files word word c.deref.result.now c.in_ok-text.text c.read_aux.result c.in_ok-names.names names inputs start _ _ refl refl (λ told h. h)
     refl f0 c.in_ok-text.ensures.answer c.deref.ensures.value c.read_aux.ensures c.in_ok-names.ensures in
@@ -116,7 +116,7 @@ returns-in_err-weight_text-clause-places g c =
     let word = c.args.word.now in
     let start : Counts = record { begun = (g.F.Folder.state c.args.folder.now).begun; missed = (g.F.Folder.state c.args.folder.now).missed; faults = (g.F.Folder.state c.args.folder.now).read_faults } in
     let names = aux_entry c.in_ok-names.names in
-    let inputs : Files = record { nodes = c.in_ok-nodes.nodes; nets = c.in_ok-nets.nets; weights = None; places = []; rows = [] } in
+    let inputs : Records = record { nodes = c.in_ok-nodes.nodes; nets = c.in_ok-nets.nets; weights = None; places = []; rows = [] } in
     let f0 = front_first files word names inputs start in
     let f1 = front_next Aux Nodes aux_grammar aux_entry files files word word c.deref.result.now c.in_ok-text.text c.read_aux.result c.in_ok-names.names names inputs start _ _ refl refl (λ told h. h)
     refl f0 c.in_ok-text.ensures.answer c.deref.ensures.value c.read_aux.ensures c.in_ok-names.ensures in
@@ -135,7 +135,7 @@ returns-in_err-weights-clause-places g c =
     let word = c.args.word.now in
     let start : Counts = record { begun = (g.F.Folder.state c.args.folder.now).begun; missed = (g.F.Folder.state c.args.folder.now).missed; faults = (g.F.Folder.state c.args.folder.now).read_faults } in
     let names = aux_entry c.in_ok-names.names in
-    let inputs : Files = record { nodes = c.in_ok-nodes.nodes; nets = c.in_ok-nets.nets; weights = None; places = []; rows = [] } in
+    let inputs : Records = record { nodes = c.in_ok-nodes.nodes; nets = c.in_ok-nets.nets; weights = None; places = []; rows = [] } in
     let f0 = front_first files word names inputs start in
     let f1 = front_next Aux Nodes aux_grammar aux_entry files files word word c.deref.result.now c.in_ok-text.text c.read_aux.result c.in_ok-names.names names inputs start _ _ refl refl (λ told h. h)
     refl f0 c.in_ok-text.ensures.answer c.deref.ensures.value c.read_aux.ensures c.in_ok-names.ensures in
@@ -155,7 +155,7 @@ returns-in_err-place_text-clause-places g c =
     let word = c.args.word.now in
     let start : Counts = record { begun = (g.F.Folder.state c.args.folder.now).begun; missed = (g.F.Folder.state c.args.folder.now).missed; faults = (g.F.Folder.state c.args.folder.now).read_faults } in
     let names = aux_entry c.in_ok-names.names in
-    let inputs : Files = record { nodes = c.in_ok-nodes.nodes; nets = c.in_ok-nets.nets; weights = c.in_ok-weights.weights; places = []; rows = [] } in
+    let inputs : Records = record { nodes = c.in_ok-nodes.nodes; nets = c.in_ok-nets.nets; weights = c.in_ok-weights.weights; places = []; rows = [] } in
     let f0 = front_first files word names inputs start in
     let f1 = front_next Aux Nodes aux_grammar aux_entry files files word word c.deref.result.now c.in_ok-text.text c.read_aux.result c.in_ok-names.names names inputs start _ _ refl refl (λ told h. h)
     refl f0 c.in_ok-text.ensures.answer c.deref.ensures.value c.read_aux.ensures c.in_ok-names.ensures in
@@ -176,7 +176,7 @@ returns-in_err-places-clause-places g c =
     let word = c.args.word.now in
     let start : Counts = record { begun = (g.F.Folder.state c.args.folder.now).begun; missed = (g.F.Folder.state c.args.folder.now).missed; faults = (g.F.Folder.state c.args.folder.now).read_faults } in
     let names = aux_entry c.in_ok-names.names in
-    let inputs : Files = record { nodes = c.in_ok-nodes.nodes; nets = c.in_ok-nets.nets; weights = c.in_ok-weights.weights; places = []; rows = [] } in
+    let inputs : Records = record { nodes = c.in_ok-nodes.nodes; nets = c.in_ok-nets.nets; weights = c.in_ok-weights.weights; places = []; rows = [] } in
     let f0 = front_first files word names inputs start in
     let f1 = front_next Aux Nodes aux_grammar aux_entry files files word word c.deref.result.now c.in_ok-text.text c.read_aux.result c.in_ok-names.names names inputs start _ _ refl refl (λ told h. h)
     refl f0 c.in_ok-text.ensures.answer c.deref.ensures.value c.read_aux.ensures c.in_ok-names.ensures in
@@ -198,7 +198,7 @@ returns-in_err-row_text-clause-places g c =
     let word = c.args.word.now in
     let start : Counts = record { begun = (g.F.Folder.state c.args.folder.now).begun; missed = (g.F.Folder.state c.args.folder.now).missed; faults = (g.F.Folder.state c.args.folder.now).read_faults } in
     let names = aux_entry c.in_ok-names.names in
-    let inputs : Files = record { nodes = c.in_ok-nodes.nodes; nets = c.in_ok-nets.nets; weights = c.in_ok-weights.weights; places = c.in_ok-places.places; rows = [] } in
+    let inputs : Records = record { nodes = c.in_ok-nodes.nodes; nets = c.in_ok-nets.nets; weights = c.in_ok-weights.weights; places = c.in_ok-places.places; rows = [] } in
     let f0 = front_first files word names inputs start in
     let f1 = front_next Aux Nodes aux_grammar aux_entry files files word word c.deref.result.now c.in_ok-text.text c.read_aux.result c.in_ok-names.names names inputs start _ _ refl refl (λ told h. h)
     refl f0 c.in_ok-text.ensures.answer c.deref.ensures.value c.read_aux.ensures c.in_ok-names.ensures in
@@ -221,7 +221,7 @@ returns-in_err-rows-clause-places g c =
     let word = c.args.word.now in
     let start : Counts = record { begun = (g.F.Folder.state c.args.folder.now).begun; missed = (g.F.Folder.state c.args.folder.now).missed; faults = (g.F.Folder.state c.args.folder.now).read_faults } in
     let names = aux_entry c.in_ok-names.names in
-    let inputs : Files = record { nodes = c.in_ok-nodes.nodes; nets = c.in_ok-nets.nets; weights = c.in_ok-weights.weights; places = c.in_ok-places.places; rows = [] } in
+    let inputs : Records = record { nodes = c.in_ok-nodes.nodes; nets = c.in_ok-nets.nets; weights = c.in_ok-weights.weights; places = c.in_ok-places.places; rows = [] } in
     let f0 = front_first files word names inputs start in
     let f1 = front_next Aux Nodes aux_grammar aux_entry files files word word c.deref.result.now c.in_ok-text.text c.read_aux.result c.in_ok-names.names names inputs start _ _ refl refl (λ told h. h)
     refl f0 c.in_ok-text.ensures.answer c.deref.ensures.value c.read_aux.ensures c.in_ok-names.ensures in
@@ -245,7 +245,7 @@ returns-clause-places g c =
     let word = c.args.word.now in
     let start : Counts = record { begun = (g.F.Folder.state c.args.folder.now).begun; missed = (g.F.Folder.state c.args.folder.now).missed; faults = (g.F.Folder.state c.args.folder.now).read_faults } in
     let names = aux_entry c.in_ok-names.names in
-    let inputs : Files = record { nodes = c.in_ok-nodes.nodes; nets = c.in_ok-nets.nets; weights = c.in_ok-weights.weights; places = c.in_ok-places.places; rows = c.in_ok-rows.rows } in
+    let inputs : Records = record { nodes = c.in_ok-nodes.nodes; nets = c.in_ok-nets.nets; weights = c.in_ok-weights.weights; places = c.in_ok-places.places; rows = c.in_ok-rows.rows } in
     let f0 = front_first files word names inputs start in
     let f1 = front_next Aux Nodes aux_grammar aux_entry files files word word c.deref.result.now c.in_ok-text.text c.read_aux.result c.in_ok-names.names names inputs start _ _ refl refl (λ told h. h)
     refl f0 c.in_ok-text.ensures.answer c.deref.ensures.value c.read_aux.ensures c.in_ok-names.ensures in
@@ -259,7 +259,7 @@ returns-clause-places g c =
     (c.load_weights.ensures.files ∙ c.load_beside-2.ensures.files ∙ c.load_beside.ensures.files ∙ c.load_as.ensures.files) f4 c.in_ok-place_text.ensures.answer c.deref-4.ensures.value c.read_pl.ensures.reading c.in_ok-places.ensures in
     let last = front_last rows_grammar (λ (file : List RowEntry). file) files (g.F.Folder.state c.load_beside-3.new.folder).files word (beside word names.scl) c.deref-5.result.now c.in_ok-row_text.row_text c.read_scl.result c.in_ok-rows.rows names inputs start _ _ (λ told h. h)
     (c.load_beside-3.ensures.files ∙ c.load_weights.ensures.files ∙ c.load_beside-2.ensures.files ∙ c.load_beside.ensures.files ∙ c.load_as.ensures.files) refl f5 c.in_ok-row_text.ensures.answer c.deref-5.ensures.value c.read_scl.ensures.reading c.in_ok-rows.ensures in
-    let given : Files = record { nodes = c.in_ok-nodes.nodes; nets = c.in_ok-nets.nets; weights = option_map (λ w. w.now) c.as_ref.result; places = c.in_ok-places.places; rows = c.in_ok-rows.rows } in
+    let given : Records = record { nodes = c.in_ok-nodes.nodes; nets = c.in_ok-nets.nets; weights = option_map (λ w. w.now) c.as_ref.result; places = c.in_ok-places.places; rows = c.in_ok-rows.rows } in
     let same : given ≡ inputs = same_files given inputs refl refl c.as_ref.ensures.value refl refl in
-    let P : Files → Type 0 = λ x. Solves x c.solved.result in
+    let P : Records → Type 0 = λ x. Solves x c.solved.result in
     ends files word start _ names inputs c.solved.result last.0 last.1 last.2 (subst P same c.solved.ensures)

@@ -9,7 +9,7 @@ use Rattle.book_files.specs.NodeRules.{nodes_grammar}
 use Rattle.book_files.specs.NetRules.{nets_grammar}
 use Rattle.book_files.specs.PlaceRules.{places_grammar}
 use Rattle.book_files.specs.RowRules.{rows_grammar}
-use Rattle.book_design.specs.Files.{Files}
+use Rattle.book_design.specs.Records.{Records}
 use Rattle.book_design.specs.Values.{DesignValue}
 use Rattle.book_design.specs.declared.fault.JoinError.{JoinError}
 use Rattle.book_design.specs.declared.fault.JoinError.TheVariants as join_error
@@ -28,11 +28,11 @@ reads_as {R = R} grammar text bytes (Ok found) records h same e =
 reads_as grammar text bytes (Err (read_error.Fault fault)) records h same e = absurd same
 reads_as grammar text bytes (Err read_error.Memory) records h same e = absurd same
 
-join_stops : (texts : Texts) (records : Files) (error : JoinError) → AreRecords texts records → JoinAnswers records (Err error) → Designs texts (Err (halt_of_join error))
+join_stops : (texts : Texts) (records : Records) (error : JoinError) → AreRecords texts records → JoinAnswers records (Err error) → Designs texts (Err (halt_of_join error))
 join_stops texts records (join_error.Fault fault) read first = (records, read, (fault, refl, first))
 join_stops texts records join_error.Memory read first = tt
 
-read_texts : (texts inside : Texts) (records : Files) → inside ≡ texts → AreRecords inside records → AreRecords texts records
+read_texts : (texts inside : Texts) (records : Records) → inside ≡ texts → AreRecords inside records → AreRecords texts records
 read_texts texts inside records e h =
     let P : Texts → Type 0 = λ t. AreRecords t records in
     subst P e h
@@ -45,7 +45,7 @@ weights_as shown text given weights e f h =
 
 pub returns-in_err-design : goal.returns-in_err-design
 returns-in_err-design c =
-    let records : Files = record { nodes = c.in_ok-nodes.nodes; nets = c.in_ok-nets.nets; weights = option_map (λ w. w.now) c.as_ref.result; places = c.in_ok-pl.pl; rows = c.in_ok-scl.scl } in
+    let records : Records = record { nodes = c.in_ok-nodes.nodes; nets = c.in_ok-nets.nets; weights = option_map (λ w. w.now) c.as_ref.result; places = c.in_ok-pl.pl; rows = c.in_ok-scl.scl } in
     let read : AreRecords c.args.self.now records = read_texts _ _ records c.self.view_is (record {
       nodes = reads_as nodes_grammar _ _ c.read_nodes.result _ c.read_nodes.ensures.reading c.in_ok-nodes.ensures c.deref.ensures.value;
       nets = reads_as nets_grammar _ _ c.read_nets.result _ c.read_nets.ensures.reading c.in_ok-nets.ensures c.deref-2.ensures.value;
@@ -60,7 +60,7 @@ returns-in_err-design c =
 
 pub returns : goal.returns
 returns c =
-    let records : Files = record { nodes = c.in_ok-nodes.nodes; nets = c.in_ok-nets.nets; weights = option_map (λ w. w.now) c.as_ref.result; places = c.in_ok-pl.pl; rows = c.in_ok-scl.scl } in
+    let records : Records = record { nodes = c.in_ok-nodes.nodes; nets = c.in_ok-nets.nets; weights = option_map (λ w. w.now) c.as_ref.result; places = c.in_ok-pl.pl; rows = c.in_ok-scl.scl } in
     let read : AreRecords c.args.self.now records = read_texts _ _ records c.self.view_is (record {
       nodes = reads_as nodes_grammar _ _ c.read_nodes.result _ c.read_nodes.ensures.reading c.in_ok-nodes.ensures c.deref.ensures.value;
       nets = reads_as nets_grammar _ _ c.read_nets.result _ c.read_nets.ensures.reading c.in_ok-nets.ensures c.deref-2.ensures.value;

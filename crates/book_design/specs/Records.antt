@@ -3,7 +3,7 @@ use Rattle.std.specs.Prelude.{ℕ, ◌+◌, List, [], ◌∷◌, ◌++◌, map, 
 use Rattle.std.specs.List.{filter}
 use Rattle.book_files.specs.Entries.{NodeEntry, WeightEntry, PlaceEntry, PinEntry, NetEntry, SubrowEntry, RowEntry}
 
-pub record Files : Type 0 where
+pub record Records : Type 0 where
   pub nodes : List NodeEntry
   pub nets : List NetEntry
   pub weights : Option (List WeightEntry)
@@ -16,35 +16,35 @@ last_of [] = None
 last_of (x ∷ []) = Some x
 last_of (x ∷ y ∷ rest) = last_of (y ∷ rest)
 
-abbrev pub weight_lines : Files → List WeightEntry
+abbrev pub weight_lines : Records → List WeightEntry
 weight_lines files = lines files.weights where
   lines : Option (List WeightEntry) → List WeightEntry
   lines None = []
   lines (Some weights) = weights
 
 -- the last line of the placement file with the name
-abbrev pub last_place : Files → List ℕ → Option PlaceEntry
+abbrev pub last_place : Records → List ℕ → Option PlaceEntry
 last_place files name = last_of (filter (λ place. bytes_eq place.name name) files.places)
 
 -- the last line of the weights file with the name
-abbrev pub last_weight : Files → List ℕ → Option WeightEntry
+abbrev pub last_weight : Records → List ℕ → Option WeightEntry
 last_weight files name = last_of (filter (λ weight. bytes_eq weight.name name) (weight_lines files))
 
 -- all pin lines in order
-abbrev pub pin_lines : Files → List PinEntry
+abbrev pub pin_lines : Records → List PinEntry
 pin_lines files = flat_map (λ net. net.pins) files.nets
 
 -- Past the end of a list stand lines without a name, a place or a size.
-abbrev pub node_at : Files → ℕ → NodeEntry
+abbrev pub node_at : Records → ℕ → NodeEntry
 node_at files i = slice_index_or files.nodes i (record { line = 0; name = []; width = pos 0; height = pos 0; fixed = false })
 
-abbrev pub net_at : Files → ℕ → NetEntry
+abbrev pub net_at : Records → ℕ → NetEntry
 net_at files i = slice_index_or files.nets i (record { name = None; pins = [] })
 
-abbrev pub pin_at : Files → ℕ → PinEntry
+abbrev pub pin_at : Records → ℕ → PinEntry
 pin_at files i = slice_index_or (pin_lines files) i (record { line = 0; node = []; dx = pos 0; dy = pos 0 })
 
-abbrev pub row_at : Files → ℕ → RowEntry
+abbrev pub row_at : Records → ℕ → RowEntry
 row_at files r = slice_index_or files.rows r (record { y = pos 0; height = pos 0; pitch = pos 0; subrows = [] })
 
 -- A subrow's row by number, its rectangle in millionths, and how many sites it has. It reaches from its origin over its
@@ -72,12 +72,12 @@ strips_from r [] = []
 strips_from r (row ∷ rows) = map (strip_of r row) row.subrows ++ strips_from (1 + r) rows
 
 -- all subrows in file order
-abbrev pub strips : Files → List Strip
+abbrev pub strips : Records → List Strip
 strips files = strips_from 0 files.rows
 
 -- past the end there is a subrow without sites or area
 abbrev pub strip_in : List Strip → ℕ → Strip
 strip_in all s = slice_index_or all s (record { row = 0; left = pos 0; right = pos 0; lower = pos 0; upper = pos 0; sites = 0 })
 
-abbrev pub strip_at : Files → ℕ → Strip
+abbrev pub strip_at : Records → ℕ → Strip
 strip_at files s = strip_in (strips files) s
