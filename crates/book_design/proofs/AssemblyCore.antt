@@ -5,8 +5,13 @@ use Rattle.std.proofs.lemmas.Int.{ints, clamps}
 use Rattle.std.specs.Int.{int_min, int_max}
 use Rattle.book_design.specs.declared.strips.Strip.{Strip as Kept}
 use Rattle.book_design.specs.declared.parts.Core.{Core}
-use Rattle.book_design.specs.Parts.{kept_at}
-use Rattle.book_design.specs.Assembly.{HasSiteBefore, IsLeast, IsGreatest, IsCoreOf, IsCoreUpTo, core_with}
+use Rattle.book_design.specs.Forms.Parts.{kept_at}
+use Rattle.book_design.specs.Forms.Assembly.{HasSiteBefore, IsLowestEnd, IsHighestEnd, IsCoreOf, core_with}
+
+-- that rectangle, or none where none of them has a site
+abbrev pub IsCoreUpTo : ℤ → List Kept → ℕ → Option Core → Type 0
+IsCoreUpTo height kept i None = (s : ℕ) → HasSiteBefore kept i s → ⊥
+IsCoreUpTo height kept i (Some core) = IsCoreOf height kept i core
 
 back : (kept : List Kept) (i : ℕ) → (kept_at kept i).sites ≡ 0 → (s : ℕ) → HasSiteBefore kept (i + 1) s → HasSiteBefore kept i s
 back kept i e s h = (⊎_elim (λ (same : s ≡ i). let t = ap (λ k. (kept_at kept k).sites) same in let z = h.1 in absurd (omega arith)) (λ apart. let z = h.0 in omega arith) (cases_eq s i), h.1)
@@ -14,19 +19,19 @@ back kept i e s h = (⊎_elim (λ (same : s ≡ i). let t = ap (λ k. (kept_at k
 forth : (kept : List Kept) (i : ℕ) (s : ℕ) → HasSiteBefore kept i s → HasSiteBefore kept (i + 1) s
 forth kept i s h = (let z = h.0 in omega arith, h.1)
 
-least_same : (end : Kept → ℤ) (kept : List Kept) (i : ℕ) (v : ℤ) → (kept_at kept i).sites ≡ 0 → IsLeast end kept i v → IsLeast end kept (i + 1) v
+least_same : (end : Kept → ℤ) (kept : List Kept) (i : ℕ) (v : ℤ) → (kept_at kept i).sites ≡ 0 → IsLowestEnd end kept i v → IsLowestEnd end kept (i + 1) v
 least_same end kept i v e h = record { least = λ s w. h.least s (back kept i e s w); there = (h.there.0, forth kept i h.there.0 h.there.1, h.there.2) }
 
-greatest_same : (end : Kept → ℤ) (kept : List Kept) (i : ℕ) (v : ℤ) → (kept_at kept i).sites ≡ 0 → IsGreatest end kept i v → IsGreatest end kept (i + 1) v
+greatest_same : (end : Kept → ℤ) (kept : List Kept) (i : ℕ) (v : ℤ) → (kept_at kept i).sites ≡ 0 → IsHighestEnd end kept i v → IsHighestEnd end kept (i + 1) v
 greatest_same end kept i v e h = record { greatest = λ s w. h.greatest s (back kept i e s w); there = (h.there.0, forth kept i h.there.0 h.there.1, h.there.2) }
 
-least_first : (end : Kept → ℤ) (kept : List Kept) (i : ℕ) → 0 < (kept_at kept i).sites → ((s : ℕ) → HasSiteBefore kept i s → ⊥) → IsLeast end kept (i + 1) (end (kept_at kept i))
+least_first : (end : Kept → ℤ) (kept : List Kept) (i : ℕ) → 0 < (kept_at kept i).sites → ((s : ℕ) → HasSiteBefore kept i s → ⊥) → IsLowestEnd end kept (i + 1) (end (kept_at kept i))
 least_first end kept i e none = record {
   least = λ s w. ⊎_elim (λ (same : s ≡ i). let t = ap (λ k. end (kept_at kept k)) same in omega (arith, ints)) (λ apart. absurd (none s (let z = w.0 in omega arith, w.1))) (cases_eq s i);
   there = (i, (omega arith, e), refl);
 }
 
-greatest_first : (end : Kept → ℤ) (kept : List Kept) (i : ℕ) → 0 < (kept_at kept i).sites → ((s : ℕ) → HasSiteBefore kept i s → ⊥) → IsGreatest end kept (i + 1) (end (kept_at kept i))
+greatest_first : (end : Kept → ℤ) (kept : List Kept) (i : ℕ) → 0 < (kept_at kept i).sites → ((s : ℕ) → HasSiteBefore kept i s → ⊥) → IsHighestEnd end kept (i + 1) (end (kept_at kept i))
 greatest_first end kept i e none = record {
   greatest = λ s w. ⊎_elim (λ (same : s ≡ i). let t = ap (λ k. end (kept_at kept k)) same in omega (arith, ints)) (λ apart. absurd (none s (let z = w.0 in omega arith, w.1))) (cases_eq s i);
   there = (i, (omega arith, e), refl);
@@ -40,13 +45,13 @@ other : (end : Kept → ℤ) (kept : List Kept) (i : ℕ) (v : ℤ) (t : Bool) �
 other end kept i v false e h = (i, (omega arith, e), refl)
 other end kept i v true e h = (h.0, forth kept i h.0 h.1, h.2)
 
-least_more : (end : Kept → ℤ) (kept : List Kept) (i : ℕ) (v : ℤ) → 0 < (kept_at kept i).sites → IsLeast end kept i v → IsLeast end kept (i + 1) (int_min v (end (kept_at kept i)))
+least_more : (end : Kept → ℤ) (kept : List Kept) (i : ℕ) (v : ℤ) → 0 < (kept_at kept i).sites → IsLowestEnd end kept i v → IsLowestEnd end kept (i + 1) (int_min v (end (kept_at kept i)))
 least_more end kept i v e h = record {
   least = λ s w. ⊎_elim (λ (same : s ≡ i). let t = ap (λ k. end (kept_at kept k)) same in omega (arith, ints, clamps)) (λ apart. let t = h.least s (let z = w.0 in omega arith, w.1) in omega (arith, ints, clamps)) (cases_eq s i);
   there = either end kept i v (int_lt (end (kept_at kept i)) v) e h.there;
 }
 
-greatest_more : (end : Kept → ℤ) (kept : List Kept) (i : ℕ) (v : ℤ) → 0 < (kept_at kept i).sites → IsGreatest end kept i v → IsGreatest end kept (i + 1) (int_max v (end (kept_at kept i)))
+greatest_more : (end : Kept → ℤ) (kept : List Kept) (i : ℕ) (v : ℤ) → 0 < (kept_at kept i).sites → IsHighestEnd end kept i v → IsHighestEnd end kept (i + 1) (int_max v (end (kept_at kept i)))
 greatest_more end kept i v e h = record {
   greatest = λ s w. ⊎_elim (λ (same : s ≡ i). let t = ap (λ k. end (kept_at kept k)) same in omega (arith, ints, clamps)) (λ apart. let t = h.greatest s (let z = w.0 in omega arith, w.1) in omega (arith, ints, clamps)) (cases_eq s i);
   there = other end kept i v (int_lt (end (kept_at kept i)) v) e h.there;

@@ -13,39 +13,41 @@ use Rattle.book_design.specs.Values.{DesignValue}
 use Rattle.book_design.specs.Faults.{ShareArea}
 use Rattle.book_design.specs.Joined.{HasSite, IsCore, Joins, joined_node, joined_subrow}
 use Rattle.book_design.specs.WellFormed.{IsDesign, IsGoodNet, IsGoodSubrow, IsGoodCore, AreApart, subrow_at}
-use Rattle.book_design.specs.Parts.{pinned_net, outline, outlines, joined_kept}
-use Rattle.book_design.specs.Assembly.{IsCoreOf, HasSiteBefore}
-use Rattle.book_design.specs.Sources.{AreInRange}
-use Rattle.book_design.specs.Steps.{IsFreeFrom}
+use Rattle.book_design.specs.Forms.Parts.{pinned_net, outline, outlines, joined_kept}
+use Rattle.book_design.specs.Forms.Assembly.{IsCoreOf, HasSiteBefore}
+use Rattle.book_design.specs.Forms.Sources.{AreInRange}
+use Rattle.book_design.specs.Forms.Steps.{IsSound}
+use Rattle.book_design.proofs.Ranks.{apart_of, nodes_of, subrows_of}
 use Rattle.book_design.proofs.AssemblyNodes.{all_from, good_nodes, distinct_nodes, good_nets, few_pins, nets_same}
-use Rattle.book_design.proofs.AssemblyStrips.{each_fine, first_row, kept_is, kept_count, some_site, all_narrow}
+use Rattle.book_design.proofs.AssemblyStrips.{each_fine, first_row, some_site, all_narrow}
+use Rattle.book_design.proofs.Rowing.{kept_is, length-outlines}
 
-pub subrow_is : (files : Records) (s : ℕ) → s < length (strips files) → subrow_at (map joined_kept (outlines files)) s ≡ joined_kept (outline (strip_at files s))
-subrow_is files s there = let count = kept_count files in let within : s < length (outlines files) = omega arith in get_or-map joined_kept (outlines files) s _ _ within ∙ ap joined_kept (kept_is files s there)
+pub subrow_is : (records : Records) (s : ℕ) → s < length (strips records) → subrow_at (map joined_kept (outlines records)) s ≡ joined_kept (outline (strip_at records s))
+subrow_is records s there = let count = length-outlines records in let within : s < length (outlines records) = omega arith in get_or-map joined_kept (outlines records) s _ _ within ∙ ap joined_kept (kept_is records s there)
 
 pub subrows_same : (all : List Strip) → map joined_kept (map outline all) ≡ map joined_subrow all
 subrows_same [] = refl
 subrows_same (s ∷ all) = ap (λ (rest : List Subrow). joined_subrow s ∷ rest) (subrows_same all)
 
-pub subrow_count : (files : Records) → length (map joined_kept (outlines files)) ≡ length (strips files)
-subrow_count files = length-map (outlines files) joined_kept ∙ kept_count files
+pub subrow_count : (records : Records) → length (map joined_kept (outlines records)) ≡ length (strips records)
+subrow_count records = length-map (outlines records) joined_kept ∙ length-outlines records
 
-pub good_subrows : (files : Records) → AreInRange files → IsFreeFrom files 1 14 → AllByRecursion (IsGoodSubrow (row_at files 0).pitch (row_at files 0).height) (map joined_kept (outlines files))
-good_subrows files ranges free = all_from (IsGoodSubrow (row_at files 0).pitch (row_at files 0).height) (map joined_kept (outlines files)) (record { row = 0; x = pos 0; y = pos 0; sites = 0 }) (λ s l.
-    let count = subrow_count files in
-    let there : s < length (strips files) = omega arith in
-    let h = each_fine files ranges free s there in
-    let P : Subrow → Type 0 = λ r. IsGoodSubrow (row_at files 0).pitch (row_at files 0).height r in
+pub good_subrows : (records : Records) → AreInRange records → IsSound records → AllByRecursion (IsGoodSubrow (row_at records 0).pitch (row_at records 0).height) (map joined_kept (outlines records))
+good_subrows records ranges free = all_from (IsGoodSubrow (row_at records 0).pitch (row_at records 0).height) (map joined_kept (outlines records)) (record { row = 0; x = pos 0; y = pos 0; sites = 0 }) (λ s l.
+    let count = subrow_count records in
+    let there : s < length (strips records) = omega arith in
+    let h = each_fine records ranges free s there in
+    let P : Subrow → Type 0 = λ r. IsGoodSubrow (row_at records 0).pitch (row_at records 0).height r in
     let Q : ℤ → Type 0 = λ z. z ≤ℤ pos (10 ^ 12) in
-    subst P (sym (subrow_is files s there)) (record { sites = h.sites; x = h.x; y = h.y; right = subst Q h.ends h.right; upper = subst Q h.above h.upper }))
+    subst P (sym (subrow_is records s there)) (record { sites = h.sites; x = h.x; y = h.y; right = subst Q h.ends h.right; upper = subst Q h.above h.upper }))
 
 above_zero : (n : ℕ) (p : ℤ) → 0 < n → pos 0 <ℤ p → pos 0 <ℤ (pos n *ℤ p)
 above_zero n (pos p) h k = let one : 1 ≤ n = h in let two : 1 ≤ p = omega (arith, ints) in let most : 1 * 1 ≤ n * p = mul-le-mul one two in omega (arith, ints)
 above_zero n (negsuc p) h k = absurd (omega (arith, ints))
 
 -- two subrows that don't share area stand apart
-apart_by : (files : Records) (a b : Strip) (pitch height : ℤ) → pos 0 <ℤ pitch → pos 0 <ℤ height → a.right ≡ a.left +ℤ pos a.sites *ℤ pitch → b.right ≡ b.left +ℤ pos b.sites *ℤ pitch → a.upper ≡ a.lower +ℤ height → b.upper ≡ b.lower +ℤ height → (ShareArea a b → ⊥) → AreApart pitch height (joined_kept (outline a)) (joined_kept (outline b))
-apart_by files a b pitch height p q e f g h none =
+apart_by : (records : Records) (a b : Strip) (pitch height : ℤ) → pos 0 <ℤ pitch → pos 0 <ℤ height → a.right ≡ a.left +ℤ pos a.sites *ℤ pitch → b.right ≡ b.left +ℤ pos b.sites *ℤ pitch → a.upper ≡ a.lower +ℤ height → b.upper ≡ b.lower +ℤ height → (ShareArea a b → ⊥) → AreApart pitch height (joined_kept (outline a)) (joined_kept (outline b))
+apart_by records a b pitch height p q e f g h none =
     ⊎_elim (λ z. inl z) (λ some_a. ⊎_elim (λ z. inr (inl z)) (λ some_b.
     let one : 0 < a.sites = omega arith in
     let two : 0 < b.sites = omega arith in
@@ -69,24 +71,24 @@ apart_by files a b pitch height p q e f g h none =
     (λ k. inr (inr (inr (inl k)))))
     (λ k. inr (inr (inl k)))) (cases_eq b.sites 0)) (cases_eq a.sites 0)
 
-pub apart : (files : Records) → AreInRange files → IsFreeFrom files 1 14 → (s t : ℕ) → s < t → t < length (map joined_kept (outlines files)) → AreApart (row_at files 0).pitch (row_at files 0).height (subrow_at (map joined_kept (outlines files)) s) (subrow_at (map joined_kept (outlines files)) t)
-apart files ranges free s t less below =
-    let count = subrow_count files in
-    let there : t < length (strips files) = omega arith in
-    let before : s < length (strips files) = omega arith in
-    let a = each_fine files ranges free s before in
-    let b = each_fine files ranges free t there in
-    let row = first_row files ranges free in
-    let P : Subrow → Type 0 = λ r. AreApart (row_at files 0).pitch (row_at files 0).height r (subrow_at (map joined_kept (outlines files)) t) in
-    let Q : Subrow → Type 0 = λ r. AreApart (row_at files 0).pitch (row_at files 0).height (joined_kept (outline (strip_at files s))) r in
-    subst P (sym (subrow_is files s before)) (subst Q (sym (subrow_is files t there))
-    (apart_by files (strip_at files s) (strip_at files t) (row_at files 0).pitch (row_at files 0).height row.pitch_sign row.height_sign a.ends b.ends a.above b.above
-    (λ shared. free.free 6 (omega arith) (omega arith) t (record { there = there; earlier = s; before = less; shared = shared }))))
+pub apart : (records : Records) → AreInRange records → IsSound records → (s t : ℕ) → s < t → t < length (map joined_kept (outlines records)) → AreApart (row_at records 0).pitch (row_at records 0).height (subrow_at (map joined_kept (outlines records)) s) (subrow_at (map joined_kept (outlines records)) t)
+apart records ranges free s t less below =
+    let count = subrow_count records in
+    let there : t < length (strips records) = omega arith in
+    let before : s < length (strips records) = omega arith in
+    let a = each_fine records ranges free s before in
+    let b = each_fine records ranges free t there in
+    let row = first_row records ranges free in
+    let P : Subrow → Type 0 = λ r. AreApart (row_at records 0).pitch (row_at records 0).height r (subrow_at (map joined_kept (outlines records)) t) in
+    let Q : Subrow → Type 0 = λ r. AreApart (row_at records 0).pitch (row_at records 0).height (joined_kept (outline (strip_at records s))) r in
+    subst P (sym (subrow_is records s before)) (subst Q (sym (subrow_is records t there))
+    (apart_by records (strip_at records s) (strip_at records t) (row_at records 0).pitch (row_at records 0).height row.pitch_sign row.height_sign a.ends b.ends a.above b.above
+    (λ shared. apart_of records free.free t (record { there = there; earlier = s; before = less; shared = shared }))))
 
-pub good_core : (files : Records) (core : Core) → AreInRange files → IsFreeFrom files 1 14 → IsCoreOf (row_at files 0).height (outlines files) (length (outlines files)) core → IsGoodCore core
-good_core files core ranges free h =
-    let narrow = all_narrow files ranges free in
-    let some = some_site files free in
+pub good_core : (records : Records) (core : Core) → AreInRange records → IsSound records → IsCoreOf (row_at records 0).height (outlines records) (length (outlines records)) core → IsGoodCore core
+good_core records core ranges free h =
+    let narrow = all_narrow records ranges free in
+    let some = some_site records free in
     let l = narrow h.left.there.0 h.left.there.1.0 in
     let r = narrow h.right.there.0 h.right.there.1.0 in
     let d = narrow h.lower.there.0 h.lower.there.1.0 in
@@ -109,69 +111,69 @@ good_core files core ranges free h =
       high = omega (arith, ints);
     }
 
-to_kept : (files : Records) (s : ℕ) → HasSite files s → HasSiteBefore (outlines files) (length (outlines files)) s
-to_kept files s h = let count = kept_count files in let below : s < length (strips files) = h.0 in let P : Kept → Type 0 = λ k. 0 < k.sites in (omega arith, subst P (sym (kept_is files s below)) h.1)
+to_kept : (records : Records) (s : ℕ) → HasSite records s → HasSiteBefore (outlines records) (length (outlines records)) s
+to_kept records s h = let count = length-outlines records in let below : s < length (strips records) = h.0 in let P : Kept → Type 0 = λ k. 0 < k.sites in (omega arith, subst P (sym (kept_is records s below)) h.1)
 
-from_kept : (files : Records) (s : ℕ) → HasSiteBefore (outlines files) (length (outlines files)) s → HasSite files s
-from_kept files s h = let count = kept_count files in let below : s < length (outlines files) = h.0 in let there : s < length (strips files) = omega arith in let P : Kept → Type 0 = λ k. 0 < k.sites in (there, subst P (kept_is files s there) h.1)
+from_kept : (records : Records) (s : ℕ) → HasSiteBefore (outlines records) (length (outlines records)) s → HasSite records s
+from_kept records s h = let count = length-outlines records in let below : s < length (outlines records) = h.0 in let there : s < length (strips records) = omega arith in let P : Kept → Type 0 = λ k. 0 < k.sites in (there, subst P (kept_is records s there) h.1)
 
-pub is_core : (files : Records) (core : Core) → AreInRange files → IsFreeFrom files 1 14 → IsCoreOf (row_at files 0).height (outlines files) (length (outlines files)) core → IsCore files core
-is_core files core ranges free h = record {
-  left = λ s w. let P : Kept → Type 0 = λ k. core.xlo ≤ℤ k.left in subst P (kept_is files s w.0) (h.left.least s (to_kept files s w));
-  right = λ s w. let P : Kept → Type 0 = λ k. k.right ≤ℤ core.xhi in subst P (kept_is files s w.0) (h.right.greatest s (to_kept files s w));
-  lower = λ s w. let P : Kept → Type 0 = λ k. core.ylo ≤ℤ k.lower in subst P (kept_is files s w.0) (h.lower.least s (to_kept files s w));
-  upper = λ s w. let P : Kept → Type 0 = λ k. (k.lower +ℤ (row_at files 0).height) ≤ℤ core.yhi in let Q : ℤ → Type 0 = λ z. z ≤ℤ core.yhi in subst Q (sym (each_fine files ranges free s w.0).above) (subst P (kept_is files s w.0) (h.upper.greatest s (to_kept files s w)));
-  at_left = let s = h.left.there.0 in let w = from_kept files s h.left.there.1 in (s, w, ap (λ (k : Kept). k.left) (sym (kept_is files s w.0)) ∙ h.left.there.2);
-  at_right = let s = h.right.there.0 in let w = from_kept files s h.right.there.1 in (s, w, ap (λ (k : Kept). k.right) (sym (kept_is files s w.0)) ∙ h.right.there.2);
-  at_lower = let s = h.lower.there.0 in let w = from_kept files s h.lower.there.1 in (s, w, ap (λ (k : Kept). k.lower) (sym (kept_is files s w.0)) ∙ h.lower.there.2);
-  at_upper = let s = h.upper.there.0 in let w = from_kept files s h.upper.there.1 in (s, w, (each_fine files ranges free s w.0).above ∙ ap (λ (k : Kept). k.lower +ℤ (row_at files 0).height) (sym (kept_is files s w.0)) ∙ h.upper.there.2);
+pub is_core : (records : Records) (core : Core) → AreInRange records → IsSound records → IsCoreOf (row_at records 0).height (outlines records) (length (outlines records)) core → IsCore records core
+is_core records core ranges free h = record {
+  left = λ s w. let P : Kept → Type 0 = λ k. core.xlo ≤ℤ k.left in subst P (kept_is records s w.0) (h.left.least s (to_kept records s w));
+  right = λ s w. let P : Kept → Type 0 = λ k. k.right ≤ℤ core.xhi in subst P (kept_is records s w.0) (h.right.greatest s (to_kept records s w));
+  lower = λ s w. let P : Kept → Type 0 = λ k. core.ylo ≤ℤ k.lower in subst P (kept_is records s w.0) (h.lower.least s (to_kept records s w));
+  upper = λ s w. let P : Kept → Type 0 = λ k. (k.lower +ℤ (row_at records 0).height) ≤ℤ core.yhi in let Q : ℤ → Type 0 = λ z. z ≤ℤ core.yhi in subst Q (sym (each_fine records ranges free s w.0).above) (subst P (kept_is records s w.0) (h.upper.greatest s (to_kept records s w)));
+  at_left = let s = h.left.there.0 in let w = from_kept records s h.left.there.1 in (s, w, ap (λ (k : Kept). k.left) (sym (kept_is records s w.0)) ∙ h.left.there.2);
+  at_right = let s = h.right.there.0 in let w = from_kept records s h.right.there.1 in (s, w, ap (λ (k : Kept). k.right) (sym (kept_is records s w.0)) ∙ h.right.there.2);
+  at_lower = let s = h.lower.there.0 in let w = from_kept records s h.lower.there.1 in (s, w, ap (λ (k : Kept). k.lower) (sym (kept_is records s w.0)) ∙ h.lower.there.2);
+  at_upper = let s = h.upper.there.0 in let w = from_kept records s h.upper.there.1 in (s, w, (each_fine records ranges free s w.0).above ∙ ap (λ (k : Kept). k.lower +ℤ (row_at records 0).height) (sym (kept_is records s w.0)) ∙ h.upper.there.2);
 }
 
 -- the design that the files make, as its parts are assembled
 abbrev pub made : Records → Core → DesignValue
-made files core = record {
-  nodes = map (joined_node files) files.nodes;
-  nets = map (pinned_net files) files.nets;
-  subrows = map joined_kept (outlines files);
+made records core = record {
+  nodes = map (joined_node records) records.nodes;
+  nets = map (pinned_net records) records.nets;
+  subrows = map joined_kept (outlines records);
   core = core;
-  pitch = (row_at files 0).pitch;
-  row_height = (row_at files 0).height;
+  pitch = (row_at records 0).pitch;
+  row_height = (row_at records 0).height;
 }
 
-pub is_design : (files : Records) (core : Core) → AreInRange files → IsFreeFrom files 1 14 → length files.nets < 2 ^ 32 → IsCoreOf (row_at files 0).height (outlines files) (length (outlines files)) core → IsDesign (made files core)
-is_design files core ranges free few h =
-    let row = first_row files ranges free in
-    let nodes = length-map files.nodes (joined_node files) in
-    let nets = length-map files.nets (pinned_net files) in
-    let rows = subrow_count files in
-    let nodes_few = free.free 8 (omega arith) (omega arith) in
-    let rows_few = free.free 10 (omega arith) (omega arith) in
-    let P : ℕ → Type 0 = λ n. AllByRecursion (IsGoodNet n) (map (pinned_net files) files.nets) in
+pub is_design : (records : Records) (core : Core) → AreInRange records → IsSound records → length records.nets < 2 ^ 32 → IsCoreOf (row_at records 0).height (outlines records) (length (outlines records)) core → IsDesign (made records core)
+is_design records core ranges free few h =
+    let row = first_row records ranges free in
+    let nodes = length-map records.nodes (joined_node records) in
+    let nets = length-map records.nets (pinned_net records) in
+    let rows = subrow_count records in
+    let nodes_few = nodes_of records free.free in
+    let rows_few = subrows_of records free.free in
+    let P : ℕ → Type 0 = λ n. AllByRecursion (IsGoodNet n) (map (pinned_net records) records.nets) in
     let pitch_sign = row.pitch_sign in
     let height_sign = row.height_sign in
     record {
       few_nodes = omega arith;
-      few_pins = few_pins files free;
+      few_pins = few_pins records free;
       few_nets = omega arith;
       few_subrows = omega arith;
-      nodes = good_nodes files ranges free;
-      distinct = distinct_nodes files free;
-      nets = subst P (sym nodes) (good_nets files ranges free);
-      subrows = good_subrows files ranges free;
-      apart = apart files ranges free;
-      core = good_core files core ranges free h;
+      nodes = good_nodes records ranges free;
+      distinct = distinct_nodes records free;
+      nets = subst P (sym nodes) (good_nets records ranges free);
+      subrows = good_subrows records ranges free;
+      apart = apart records ranges free;
+      core = good_core records core ranges free h;
       pitch = row.pitch;
       row_height = row.height;
       pitch_sign = omega (arith, ints);
       height_sign = omega (arith, ints);
     }
 
-pub joins : (files : Records) (core : Core) → AreInRange files → IsFreeFrom files 1 14 → IsCoreOf (row_at files 0).height (outlines files) (length (outlines files)) core → Joins files (made files core)
-joins files core ranges free h = record {
+pub joins : (records : Records) (core : Core) → AreInRange records → IsSound records → IsCoreOf (row_at records 0).height (outlines records) (length (outlines records)) core → Joins records (made records core)
+joins records core ranges free h = record {
   nodes = refl;
-  nets = nets_same files free;
-  subrows = subrows_same (strips files);
-  core = is_core files core ranges free h;
+  nets = nets_same records free;
+  subrows = subrows_same (strips records);
+  core = is_core records core ranges free h;
   pitch = refl;
   row_height = refl;
 }

@@ -14,7 +14,7 @@ use Rattle.book_design.specs.declared.parts.Node.{Node}
 use Rattle.book_files.specs.declared.orient.Orient.TheVariants.{N}
 use Rattle.book_design.specs.Values.{NodeValue, node_value, node_values}
 use Rattle.book_design.specs.Points.{is_movable, node_value_at, movable_before, IsNodeOf}
-use Rattle.book_design.specs.Assembly.{ArePoints}
+use Rattle.book_design.specs.Forms.Assembly.{ArePoints}
 
 -- the node that a read past the end gives
 abbrev pub no_record : Node
@@ -25,14 +25,6 @@ before_more nodes i m numbers new len here e h k below = ⊎_elim
     (λ (same : k ≡ i). let at : length numbers ≡ k = omega arith in ap (λ (xs : List ℕ). get_or xs k 0) e ∙ get_or_push numbers m 0 k at ∙ here ∙ ap (movable_before nodes) (sym same))
     (λ apart. let within : k < length numbers = omega arith in ap (λ (xs : List ℕ). get_or xs k 0) e ∙ get_or_append_left numbers (m ∷ []) 0 k within ∙ h k (omega arith))
     (cases_eq k i)
-
-pub no_points : (nodes : List NodeValue) (movable numbers : List ℕ) → movable ≡ [] → numbers ≡ [] → ArePoints nodes 0 movable numbers
-no_points nodes movable numbers e f = record {
-  points = ap length e;
-  node = λ p below. let none : length movable ≡ 0 = ap length e in absurd (omega arith);
-  nodes_so_far = ap length f;
-  before = λ k below. absurd (omega arith);
-}
 
 -- the next node is fixed
 pub points_fixed : (nodes : List NodeValue) (i : ℕ) (movable numbers new : List ℕ) → i < length nodes → is_movable (node_value_at nodes i) ≡ false → new ≡ numbers ++ length movable ∷ [] → ArePoints nodes i movable numbers → ArePoints nodes (i + 1) movable new

@@ -6,13 +6,16 @@ use Rattle.std.proofs.lemmas.List.{get_or-map, length-map}
 use Rattle.std.proofs.lemmas.Int.{ints, by_lt_z}
 use Rattle.book_files.specs.Entries.{SubrowEntry, RowEntry}
 use Rattle.book_files.specs.Ranges.{IsInRange, IsRowInRange, IsSubrowInRange}
+use Rattle.book_design.specs.declared.rules.TheConstants.{MOST_NODES, MOST_SITES, ROWS_END}
 use Rattle.book_design.specs.declared.strips.Strip.{Strip as Kept}
 use Rattle.book_design.specs.Records.{Records, Strip, strip_of, strips_from, strips, strip_at, row_at}
 use Rattle.book_design.specs.Faults.{IsMixedRow}
-use Rattle.book_design.specs.Parts.{outline, outlines, kept_at}
-use Rattle.book_design.specs.Assembly.{IsNarrow, AreNarrow, HasSiteBefore}
-use Rattle.book_design.specs.Sources.{AreInRange}
-use Rattle.book_design.specs.Steps.{IsFreeFrom}
+use Rattle.book_design.specs.Forms.Parts.{outline, outlines, kept_at}
+use Rattle.book_design.specs.Forms.Assembly.{IsNarrow, AreNarrow, HasSiteBefore}
+use Rattle.book_design.specs.Forms.Sources.{AreInRange}
+use Rattle.book_design.specs.Forms.Steps.{IsSound}
+use Rattle.book_design.proofs.Rowing.{kept_is, length-outlines}
+use Rattle.book_design.proofs.Ranks.{ends_of, even_of, nodes_of, sites_of}
 use Rattle.book_design.proofs.AssemblyPoints.{all_at}
 
 -- a subrow of one of the rows
@@ -60,27 +63,27 @@ all_of (row ∷ rows) r h = both (IsOf (row ∷ rows) r) (map (strip_of r row) r
     (weaken (IsOf rows (1 + r)) (IsOf (row ∷ rows) r) (later row rows r) (strips_from (1 + r) rows) (all_of rows (1 + r) h.1))
 
 -- what holds of each subrow of files without a fault
-pub record IsFine (files : Records) (s : ℕ) : Type 0 where
-  pub x : IsInRange (strip_at files s).left
-  pub y : IsInRange (strip_at files s).lower
-  pub wide : (strip_at files s).left ≤ℤ (strip_at files s).right
-  pub right : (strip_at files s).right ≤ℤ pos (10 ^ 12)
-  pub upper : (strip_at files s).upper ≤ℤ pos (10 ^ 12)
-  pub sites : (strip_at files s).sites ≤ 2 ^ 24
-  pub ends : (strip_at files s).right ≡ (strip_at files s).left +ℤ pos (strip_at files s).sites *ℤ (row_at files 0).pitch
-  pub above : (strip_at files s).upper ≡ (strip_at files s).lower +ℤ (row_at files 0).height
+pub record IsFine (records : Records) (s : ℕ) : Type 0 where
+  pub x : IsInRange (strip_at records s).left
+  pub y : IsInRange (strip_at records s).lower
+  pub wide : (strip_at records s).left ≤ℤ (strip_at records s).right
+  pub right : (strip_at records s).right ≤ℤ pos (10 ^ 12)
+  pub upper : (strip_at records s).upper ≤ℤ pos (10 ^ 12)
+  pub sites : (strip_at records s).sites ≤ MOST_SITES
+  pub ends : (strip_at records s).right ≡ (strip_at records s).left +ℤ pos (strip_at records s).sites *ℤ (row_at records 0).pitch
+  pub above : (strip_at records s).upper ≡ (strip_at records s).lower +ℤ (row_at records 0).height
 
 -- a row that isn't mixed
-alike : (files : Records) → ((r : ℕ) → IsMixedRow files r → ⊥) → (r : ℕ) → r < length files.rows → ((row_at files r).height ≡ (row_at files 0).height) × ((row_at files r).pitch ≡ (row_at files 0).pitch)
-alike files free r there = (
-  by_lt_z (row_at files r).height (row_at files 0).height
+alike : (records : Records) → ((r : ℕ) → IsMixedRow records r → ⊥) → (r : ℕ) → r < length records.rows → ((row_at records r).height ≡ (row_at records 0).height) × ((row_at records r).pitch ≡ (row_at records 0).pitch)
+alike records free r there = (
+  by_lt_z (row_at records r).height (row_at records 0).height
       (λ l. absurd (free r (record { there = there; other = inl (λ e. let t = e in omega (arith, ints)) })))
-      (λ g. by_lt_z (row_at files 0).height (row_at files r).height
+      (λ g. by_lt_z (row_at records 0).height (row_at records r).height
       (λ l. absurd (free r (record { there = there; other = inl (λ e. let t = e in omega (arith, ints)) })))
       (λ h. omega (arith, ints))),
-  by_lt_z (row_at files r).pitch (row_at files 0).pitch
+  by_lt_z (row_at records r).pitch (row_at records 0).pitch
       (λ l. absurd (free r (record { there = there; other = inr (λ e. let t = e in omega (arith, ints)) })))
-      (λ g. by_lt_z (row_at files 0).pitch (row_at files r).pitch
+      (λ g. by_lt_z (row_at records 0).pitch (row_at records r).pitch
       (λ l. absurd (free r (record { there = there; other = inr (λ e. let t = e in omega (arith, ints)) })))
       (λ h. omega (arith, ints))),
 )
@@ -89,67 +92,61 @@ never_below : (n : ℕ) (p : ℤ) → pos 0 <ℤ p → pos 0 ≤ℤ (pos n *ℤ 
 never_below n (pos p) h = omega (arith, ints)
 never_below n (negsuc p) h = absurd (omega (arith, ints))
 
-fine : (files : Records) → IsFreeFrom files 1 14 → (s : ℕ) → s < length (strips files) → IsOf files.rows 0 (strip_at files s) → IsFine files s
-fine files free s there h =
-    let strip = strip_at files s in
-    let row_is : row_at files h.row ≡ h.entry = h.at _ in
-    let same = alike files (free.free 5 (omega arith) (omega arith)) h.row h.there in
-    let height : h.entry.height ≡ (row_at files 0).height = sym (ap (λ (r : RowEntry). r.height) row_is) ∙ same.0 in
-    let pitch : h.entry.pitch ≡ (row_at files 0).pitch = sym (ap (λ (r : RowEntry). r.pitch) row_is) ∙ same.1 in
+fine : (records : Records) → IsSound records → (s : ℕ) → s < length (strips records) → IsOf records.rows 0 (strip_at records s) → IsFine records s
+fine records free s there h =
+    let strip = strip_at records s in
+    let row_is : row_at records h.row ≡ h.entry = h.at _ in
+    let same = alike records (even_of records free.free) h.row h.there in
+    let height : h.entry.height ≡ (row_at records 0).height = sym (ap (λ (r : RowEntry). r.height) row_is) ∙ same.0 in
+    let pitch : h.entry.pitch ≡ (row_at records 0).pitch = sym (ap (λ (r : RowEntry). r.pitch) row_is) ∙ same.1 in
     let left : strip.left ≡ h.subrow.x = ap (λ (t : Strip). t.left) h.is in
     let lower : strip.lower ≡ h.entry.y = ap (λ (t : Strip). t.lower) h.is in
     let sites : strip.sites ≡ h.subrow.sites = ap (λ (t : Strip). t.sites) h.is in
     let right : strip.right ≡ h.subrow.x +ℤ pos h.subrow.sites *ℤ h.entry.pitch = ap (λ (t : Strip). t.right) h.is in
     let upper : strip.upper ≡ h.entry.y +ℤ h.entry.height = ap (λ (t : Strip). t.upper) h.is in
     let number : strip.row ≡ h.row = ap (λ (t : Strip). t.row) h.is ∙ omega arith in
-    let above : strip.upper ≡ strip.lower +ℤ (row_at files 0).height = upper ∙ ap (λ y. y +ℤ h.entry.height) (sym lower) ∙ ap (λ z. strip.lower +ℤ z) height in
-    let within = free.free 13 (omega arith) (omega arith) in
-    let few = free.free 11 (omega arith) (omega arith) in
+    let above : strip.upper ≡ strip.lower +ℤ (row_at records 0).height = upper ∙ ap (λ y. y +ℤ h.entry.height) (sym lower) ∙ ap (λ z. strip.lower +ℤ z) height in
+    let within = ends_of records free.free in
+    let few = sites_of records free.free in
     let some = never_below h.subrow.sites h.entry.pitch h.is_row.pitch_sign in
     let P : ℤ → Type 0 = λ z. IsInRange z in
     record {
       x = subst P (sym left) h.is_subrow.x;
       y = subst P (sym lower) h.is_row.y;
       wide = omega (arith, ints);
-      right = by_lt_z (pos (10 ^ 12)) strip.right (λ l. absurd (within h.row (record { there = h.there; past = inr (s, there, number, l) }))) (λ g. g);
-      upper = by_lt_z (pos (10 ^ 12)) strip.upper (λ l. absurd (within h.row (record { there = h.there; past = inl (let Q : RowEntry → Type 0 = λ r. pos (10 ^ 12) <ℤ (r.y +ℤ r.height) in let R : ℤ → Type 0 = λ z. pos (10 ^ 12) <ℤ z in subst Q (sym row_is) (subst R upper l)) }))) (λ g. g);
-      sites = ⊎_elim (λ l. absurd (few s (there, l))) (λ g. g) (cases_lt (2 ^ 24) strip.sites);
+      right = by_lt_z ROWS_END strip.right (λ l. absurd (within h.row (record { there = h.there; past = inr (s, there, number, l) }))) (λ g. g);
+      upper = by_lt_z ROWS_END strip.upper (λ l. absurd (within h.row (record { there = h.there; past = inl (let Q : RowEntry → Type 0 = λ r. ROWS_END <ℤ (r.y +ℤ r.height) in let R : ℤ → Type 0 = λ z. ROWS_END <ℤ z in subst Q (sym row_is) (subst R upper l)) }))) (λ g. g);
+      sites = ⊎_elim (λ l. absurd (few s (there, l))) (λ g. g) (cases_lt MOST_SITES strip.sites);
       ends = right ∙ ap (λ x. x +ℤ pos h.subrow.sites *ℤ h.entry.pitch) (sym left) ∙ ap (λ (n : ℕ). strip.left +ℤ pos n *ℤ h.entry.pitch) (sym sites) ∙ ap (λ z. strip.left +ℤ pos strip.sites *ℤ z) pitch;
       above = above;
     }
 
-pub each_fine : (files : Records) → AreInRange files → IsFreeFrom files 1 14 → (s : ℕ) → s < length (strips files) → IsFine files s
-each_fine files ranges free s there = fine files free s there (all_at (IsOf files.rows 0) (strips files) s _ (all_of files.rows 0 ranges.rows) there)
+pub each_fine : (records : Records) → AreInRange records → IsSound records → (s : ℕ) → s < length (strips records) → IsFine records s
+each_fine records ranges free s there = fine records free s there (all_at (IsOf records.rows 0) (strips records) s _ (all_of records.rows 0 ranges.rows) there)
 
 -- the rows that are there have a positive height
-some_row : (files : Records) → IsFreeFrom files 1 14 → 0 < length files.rows
-some_row files free = by files.rows (free.free 4 (omega arith) (omega arith)).0 (free.free 4 (omega arith) (omega arith)).1.0 where
+some_row : (records : Records) → IsSound records → 0 < length records.rows
+some_row records free = by records.rows free.some.0 free.some.1.0 where
   by : (rows : List RowEntry) (s : ℕ) → s < length (strips_from 0 rows) → 0 < length rows
   by [] s l = absurd (omega arith)
   by (row ∷ rows) s l = omega arith
 
-pub first_row : (files : Records) → AreInRange files → IsFreeFrom files 1 14 → IsRowInRange (row_at files 0)
-first_row files ranges free = all_at IsRowInRange files.rows 0 _ ranges.rows (some_row files free)
-
-pub kept_is : (files : Records) (s : ℕ) → s < length (strips files) → kept_at (outlines files) s ≡ outline (strip_at files s)
-kept_is files s there = get_or-map outline (strips files) s _ _ there
-
-pub kept_count : (files : Records) → length (outlines files) ≡ length (strips files)
-kept_count files = length-map (strips files) outline
+pub first_row : (records : Records) → AreInRange records → IsSound records → IsRowInRange (row_at records 0)
+first_row records ranges free = all_at IsRowInRange records.rows 0 _ ranges.rows (some_row records free)
 
 -- the subrows as they are kept lie within the limits
-pub all_narrow : (files : Records) → AreInRange files → IsFreeFrom files 1 14 → AreNarrow (row_at files 0).height (outlines files)
-all_narrow files ranges free s below =
-    let count = kept_count files in
-    let there : s < length (strips files) = omega arith in
-    let h = each_fine files ranges free s there in
-    let row = first_row files ranges free in
+pub all_narrow : (records : Records) → AreInRange records → IsSound records → AreNarrow (row_at records 0).height (outlines records)
+all_narrow records ranges free s below =
+    let count = length-outlines records in
+    let there : s < length (strips records) = omega arith in
+    let h = each_fine records ranges free s there in
+    let row = first_row records ranges free in
     let positive = row.height_sign in
     let left_low = h.x.low in
     let low = h.y.low in
-    let P : Kept → Type 0 = λ k. IsNarrow (row_at files 0).height k in
+    let P : Kept → Type 0 = λ k. IsNarrow (row_at records 0).height k in
     let Q : ℤ → Type 0 = λ z. z ≤ℤ pos (10 ^ 12) in
-    subst P (sym (kept_is files s there)) (record {
+    subst P (sym (kept_is records s there)) (record {
       left = h.x.low;
       wide = h.wide;
       right = h.right;
@@ -159,13 +156,13 @@ all_narrow files ranges free s below =
       sites = h.sites;
     })
 
-pub some_site : (files : Records) → IsFreeFrom files 1 14 → (s : ℕ) × HasSiteBefore (outlines files) (length (outlines files)) s
-some_site files free =
-    let h = free.free 4 (omega arith) (omega arith) in
-    let count = kept_count files in
-    let there : h.0 < length (strips files) = h.1.0 in
+pub some_site : (records : Records) → IsSound records → (s : ℕ) × HasSiteBefore (outlines records) (length (outlines records)) s
+some_site records free =
+    let h = free.some in
+    let count = length-outlines records in
+    let there : h.0 < length (strips records) = h.1.0 in
     let P : Kept → Type 0 = λ k. 0 < k.sites in
-    (h.0, (omega arith, subst P (sym (kept_is files h.0 there)) h.1.1))
+    (h.0, (omega arith, subst P (sym (kept_is records h.0 there)) h.1.1))
 
-pub few_nodes : (files : Records) → IsFreeFrom files 1 14 → length files.nodes ≤ 2 ^ 20
-few_nodes files free = free.free 8 (omega arith) (omega arith)
+pub few_nodes : (records : Records) → IsSound records → length records.nodes ≤ MOST_NODES
+few_nodes records free = nodes_of records free.free

@@ -4,13 +4,11 @@ pub mod Building
 pub mod Placing
 pub mod Netting
 pub mod Rowing
-pub mod Ends
 mod OverlapPlaces
 mod OverlapAreas
 pub mod OverlapBands
 pub mod OverlapWalk
 pub mod OverlapRun
-pub mod OneJoin
 pub mod RowsSums
 pub mod RowsLaid
 pub mod RowsApart
@@ -23,3 +21,6 @@ pub mod AssemblyDesign
 pub mod Counting
 pub mod ValuesWithin
 pub mod ValuesEnds
+pub mod Deciding
+pub mod SomeJoin
+pub mod OneJoin

@@ -6,12 +6,13 @@ use Rattle.std.specs.Str.{bytes_eq}
 use Rattle.std.specs.BTreeMap.{BTreeMap, IsEmpty}
 use Rattle.std.proofs.lemmas.Bool.{cases_eq, false_from_ne_true}
 use Rattle.std.proofs.lemmas.Slice.Eq.{bytes_eq-Decides}
-use Rattle.book_design.specs.Numbers.{number_in, IsLast, IsLastNumber, AreNumbers}
+use Rattle.book_files.specs.Words.{last_of}
+use Rattle.book_design.specs.Forms.Numbers.{number_in, IsLast, IsLastNumber, AreNumbers}
 use Rattle.book_design.specs.declared.fault.DesignFault.TheVariants.{DuplicateName}
-use Rattle.book_design.specs.Records.{Records, node_at, last_of}
+use Rattle.book_design.specs.Records.{Records, node_at}
 use Rattle.book_design.specs.Faults.{HasEarlierName}
-use Rattle.book_design.specs.Steps.{IsFree, IsFirstFrom}
-use Rattle.book_design.specs.Sources.{node_name}
+use Rattle.book_design.specs.Forms.Steps.{IsFirstFrom}
+use Rattle.book_design.specs.Forms.Sources.{node_name}
 use Rattle.book_design.proofs.Ranks.{first_of_rank}
 
 -- the next line has the name
@@ -41,38 +42,38 @@ pub no_numbers : (name_at : ℕ → List ℕ) (numbers : BTreeMap (Bor (List ℕ
 no_numbers name_at numbers empty = record { last = λ name. let none : number_in numbers name ≡ None = rw empty refl in rw none (λ k below e. absurd (omega arith)) }
 
 -- what holds of the numbers found so far, in the loop over the nodes
-pub record AreDistinctNumbers (files : Records) (i : ℕ) (numbers : BTreeMap (Bor (List ℕ)) ℕ) : Type 0 where
-  pub distinct : (j : ℕ) → j < i → HasEarlierName files j → ⊥
-  pub numbered : AreNumbers (node_name files) i numbers
+pub record AreDistinctNumbers (records : Records) (i : ℕ) (numbers : BTreeMap (Bor (List ℕ)) ℕ) : Type 0 where
+  pub distinct : (j : ℕ) → j < i → HasEarlierName records j → ⊥
+  pub numbered : AreNumbers (node_name records) i numbers
 
 found_last : (name_at : ℕ → List ℕ) (i : ℕ) (numbers : BTreeMap (Bor (List ℕ)) ℕ) (put : List ℕ) (found : Option ℕ) → AreNumbers name_at i numbers → found ≡ number_in numbers put → IsLastNumber name_at i put found
 found_last name_at i numbers put found h e = rw e (h.last put)
 
 -- the first so many lines have no name twice, and the next one has that name
-first_duplicate : (files : Records) (i line : ℕ) (put : List ℕ) (found : Option ℕ) → i < length files.nodes → put ≡ node_name files i → line ≡ (node_at files i).line → IsLastNumber (node_name files) i put found → is_some found ≡ true → ((j : ℕ) → j < i → HasEarlierName files j → ⊥) → IsFirstFrom files 1 (DuplicateName line)
-first_duplicate files i line put (Some e) there same told h some before = first_of_rank files 1 (DuplicateName line) refl (i, record { here = record { there = there; earlier = e; before = h.there; same = h.same ∙ same }; not_before = before }, told)
-first_duplicate files i line put None there same told h some before = absurd cc
+first_duplicate : (records : Records) (i line : ℕ) (put : List ℕ) (found : Option ℕ) → i < length records.nodes → put ≡ node_name records i → line ≡ (node_at records i).line → IsLastNumber (node_name records) i put found → is_some found ≡ true → ((j : ℕ) → j < i → HasEarlierName records j → ⊥) → IsFirstFrom records 1 (DuplicateName line)
+first_duplicate records i line put (Some e) there same named h some before = first_of_rank records 1 (DuplicateName line) refl (i, record { here = record { there = there; earlier = e; before = h.there; same = h.same ∙ same }; not_before = before }, named)
+first_duplicate records i line put None there same named h some before = absurd cc
 
 -- a node whose name the look-up finds among the ones before it is the first duplicate
-pub duplicate : (files : Records) (i : ℕ) (numbers : BTreeMap (Bor (List ℕ)) ℕ) (line : ℕ) (put : List ℕ) (found : Option ℕ) → AreDistinctNumbers files i numbers → found ≡ number_in numbers put → is_some found ≡ true → i < length files.nodes → put ≡ node_name files i → line ≡ (node_at files i).line → IsFirstFrom files 1 (DuplicateName line)
-duplicate files i numbers line put found h e some there same told = first_duplicate files i line put found there same told (found_last (node_name files) i numbers put found h.numbered e) some h.distinct
+pub duplicate : (records : Records) (i : ℕ) (numbers : BTreeMap (Bor (List ℕ)) ℕ) (line : ℕ) (put : List ℕ) (found : Option ℕ) → AreDistinctNumbers records i numbers → found ≡ number_in numbers put → is_some found ≡ true → i < length records.nodes → put ≡ node_name records i → line ≡ (node_at records i).line → IsFirstFrom records 1 (DuplicateName line)
+duplicate records i numbers line put found h e some there same named = first_duplicate records i line put found there same named (found_last (node_name records) i numbers put found h.numbered e) some h.distinct
 
-distinct_next : (files : Records) (i : ℕ) (put : List ℕ) (found : Option ℕ) → put ≡ node_name files i → IsLastNumber (node_name files) i put found → is_some found ≡ false → HasEarlierName files i → ⊥
-distinct_next files i put (Some e) same h none earlier = absurd cc
-distinct_next files i put None same h none earlier = h earlier.earlier earlier.before (earlier.same ∙ sym same)
+distinct_next : (records : Records) (i : ℕ) (put : List ℕ) (found : Option ℕ) → put ≡ node_name records i → IsLastNumber (node_name records) i put found → is_some found ≡ false → HasEarlierName records i → ⊥
+distinct_next records i put (Some e) same h none earlier = absurd cc
+distinct_next records i put None same h none earlier = h earlier.earlier earlier.before (earlier.same ∙ sym same)
 
-pub distinct_more : (files : Records) (i : ℕ) (old new : BTreeMap (Bor (List ℕ)) ℕ) (put : List ℕ) (found : Option ℕ) → AreDistinctNumbers files i old → found ≡ number_in old put → is_some found ≡ false → ((name : List ℕ) → number_in new name ≡ cond (bytes_eq put name) (Some i) (number_in old name)) → put ≡ node_name files i → AreDistinctNumbers files (i + 1) new
-distinct_more files i old new put found h e none after same = record {
-  distinct = λ j below earlier. ⊎_elim (λ (here : j ≡ i). distinct_next files i put found same (found_last (node_name files) i old put found h.numbered e) none (subst (HasEarlierName files) here earlier)) (λ apart. h.distinct j (omega arith) earlier) (cases_eq j i);
-  numbered = numbers_more (node_name files) i old new put same after h.numbered;
+pub distinct_more : (records : Records) (i : ℕ) (old new : BTreeMap (Bor (List ℕ)) ℕ) (put : List ℕ) (found : Option ℕ) → AreDistinctNumbers records i old → found ≡ number_in old put → is_some found ≡ false → ((name : List ℕ) → number_in new name ≡ cond (bytes_eq put name) (Some i) (number_in old name)) → put ≡ node_name records i → AreDistinctNumbers records (i + 1) new
+distinct_more records i old new put found h e none after same = record {
+  distinct = λ j below earlier. ⊎_elim (λ (here : j ≡ i). distinct_next records i put found same (found_last (node_name records) i old put found h.numbered e) none (subst (HasEarlierName records) here earlier)) (λ apart. h.distinct j (omega arith) earlier) (cases_eq j i);
+  numbered = numbers_more (node_name records) i old new put same after h.numbered;
 }
 
 -- when all lines are put into the map
 pub numbers_whole : (name_at : ℕ → List ℕ) (i n : ℕ) (numbers : BTreeMap (Bor (List ℕ)) ℕ) → i ≡ n → AreNumbers name_at i numbers → AreNumbers name_at n numbers
 numbers_whole name_at i n numbers e h = subst (λ (k : ℕ). AreNumbers name_at k numbers) e h
 
-pub distinct_whole : (files : Records) (i : ℕ) (numbers : BTreeMap (Bor (List ℕ)) ℕ) → i ≡ length files.nodes → AreDistinctNumbers files i numbers → IsFree files 1 × AreNumbers (node_name files) (length files.nodes) numbers
-distinct_whole files i numbers e h = (λ j earlier. h.distinct j (let t = earlier.there in omega arith) earlier, numbers_whole (node_name files) i (length files.nodes) numbers e h.numbered)
+pub distinct_whole : (records : Records) (i : ℕ) (numbers : BTreeMap (Bor (List ℕ)) ℕ) → i ≡ length records.nodes → AreDistinctNumbers records i numbers → ((i : ℕ) → HasEarlierName records i → ⊥) × AreNumbers (node_name records) (length records.nodes) numbers
+distinct_whole records i numbers e h = (λ j earlier. h.distinct j (let t = earlier.there in omega arith) earlier, numbers_whole (node_name records) i (length records.nodes) numbers e h.numbered)
 
 -- a filter that nothing passes
 pub filter-none : {X : Type 0} (p : X → Bool) (xs : List X) (d : X) → ((k : ℕ) → k < length xs → p (get_or xs k d) ≡ false) → filter p xs ≡ []

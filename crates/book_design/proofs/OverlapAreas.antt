@@ -4,7 +4,7 @@ use Rattle.std.proofs.lemmas.Int.{ints, clamps}
 use Rattle.std.specs.Int.{int_max, int_min}
 use Rattle.std.specs.Prelude.{int_lt, int_le, IsTrue, ◌↔◌}
 use Rattle.book_design.specs.declared.strips.Strip.{Strip as Kept}
-use Rattle.book_design.specs.Overlap.{Meet}
+use Rattle.book_design.specs.Forms.Overlap.{Meet}
 
 pub lt_of : (x y : ℤ) → IsTrue (int_lt x y) → x <ℤ y
 lt_of x y h = grind (arith, ints)
@@ -25,14 +25,8 @@ meets height a b positive columns rows = record {
   upper_lower = omega (arith, ints, clamps);
 }
 
-pub columns_of : (height : ℤ) (a b : Kept) → Meet height a b → int_max a.left b.left <ℤ int_min a.right b.right
-columns_of height a b m = omega (arith, ints, clamps)
-
 pub rows_of : (height : ℤ) (a b : Kept) → Meet height a b → int_max a.lower b.lower <ℤ (int_min a.lower b.lower +ℤ height)
 rows_of height a b m = omega (arith, ints, clamps)
-
-pub not_lt : (x y : ℤ) → int_lt x y ≡ false → y ≤ℤ x
-not_lt x y h = grind (arith, ints)
 
 pub lt_same : (x y u v : ℤ) → x ≡ u → y ≡ v → IsTrue (int_lt x y) ↔ (u <ℤ v)
 lt_same x y u v e f =

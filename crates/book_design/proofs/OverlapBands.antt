@@ -5,8 +5,8 @@ use Rattle.std.proofs.lemmas.Nat.{div_below}
 use Rattle.std.specs.Prelude.{unsigned_abs}
 use Rattle.std.specs.BTreeMap.{BTreeMap}
 use Rattle.book_design.specs.declared.strips.Strip.{Strip as Kept}
-use Rattle.book_design.specs.Strips.{IsStripInRange}
-use Rattle.book_design.specs.Overlap.{band, Place, Has, IsApart, MeetsNone, MeetsNoneOf}
+use Rattle.book_design.specs.Forms.Strips.{IsStripInRange}
+use Rattle.book_design.specs.Forms.Overlap.{band, Place, Has, IsApart, MeetsNone, MeetsNoneOf}
 
 less_in_one : (x y h : ℕ) → 0 < h → x / h ≡ y / h → x < y + h
 less_in_one x y h positive e = grind arith

@@ -9,16 +9,10 @@ use Rattle.std.specs.BTreeMap.Range.{IsRangeOf, IsEntryInRange}
 use Rattle.std.specs.declared.ops.Bound.TheVariants.{Excluded, Unbounded}
 use Rattle.std.specs.Option.{IsSome}
 use Rattle.book_design.specs.declared.strips.Strip.{Strip as Kept}
-use Rattle.book_design.specs.Overlap.{Place, place_cmp, Has, StandAtLeftEdges, IsLastBefore, HasNoneBefore}
-
-pub lt_band : (p q : Place) → p.0 < q.0 → place_cmp p q ≡ Less
-lt_band p q h = grind (arith, nat_tests)
+use Rattle.book_design.specs.Forms.Overlap.{Place, place_cmp, Has, StandAtLeftEdges, IsLastBefore, HasNoneBefore}
 
 pub lt_left : (p q : Place) → p.0 ≡ q.0 → p.1 <ℤ q.1 → place_cmp p q ≡ Less
 lt_left p q e h = grind (arith, nat_tests, ints)
-
-pub lt_cases : (p q : Place) → place_cmp p q ≡ Less → (p.0 < q.0) ⊎ ((p.0 ≡ q.0) × (p.1 <ℤ q.1))
-lt_cases p q h = grind (arith, nat_tests, ints)
 
 pub same_place : (p q : Place) → is_eq (place_cmp p q) ≡ true → (p.0 ≡ q.0) × (p.1 ≡ q.1)
 same_place p q h = grind (arith, nat_tests, ints)

@@ -9,8 +9,8 @@ use Rattle.std.specs.Ordering.{is_eq}
 use Rattle.book_design.specs.declared.strips.Strip.{Strip as Kept}
 use Rattle.book_design.specs.Records.{Strip, strip_in}
 use Rattle.book_design.specs.Faults.{ShareArea, IsOverlapping, IsFirst}
-use Rattle.book_design.specs.Strips.{strip_value, strip_values, IsStripInRange}
-use Rattle.book_design.specs.Overlap.{Place, band, place_of, place_cmp, Has, IsApart, Meet, MeetsOne, MeetsNone, HasAlso}
+use Rattle.book_design.specs.Forms.Strips.{strip_value, strip_values, IsStripInRange}
+use Rattle.book_design.specs.Forms.Overlap.{Place, band, place_of, place_cmp, Has, IsApart, Meet, MeetsOne, MeetsNone, HasAlso}
 use Rattle.book_design.proofs.OverlapPlaces.{same_place, same_at}
 use Rattle.book_design.proofs.OverlapBands.{less_in_band}
 

@@ -4,8 +4,8 @@ use Rattle.std.proofs.lemmas.Int.{ints, by_lt_z}
 use Rattle.std.specs.Prelude.{unsigned_abs}
 use Rattle.std.specs.BTreeMap.{BTreeMap}
 use Rattle.book_design.specs.declared.strips.Strip.{Strip as Kept}
-use Rattle.book_design.specs.Strips.{IsStripInRange}
-use Rattle.book_design.specs.Overlap.{band, Place, Has, IsApart, Meet, MeetsNoneOf, StandAtLeftEdges, IsLastBefore, HasNoneBefore}
+use Rattle.book_design.specs.Forms.Strips.{IsStripInRange}
+use Rattle.book_design.specs.Forms.Overlap.{band, Place, Has, IsApart, Meet, MeetsNoneOf, StandAtLeftEdges, IsLastBefore, HasNoneBefore}
 use Rattle.book_design.proofs.OverlapBands.{less_in_band}
 
 -- none of those of a band that begin at an end or after it shares area with the subrow

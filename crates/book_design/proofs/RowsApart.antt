@@ -7,8 +7,8 @@ use Rattle.book_files.specs.Entries.{RowEntry, SubrowEntry}
 use Rattle.book_files.specs.Ranges.{IsRowInRange, IsSubrowInRange}
 use Rattle.book_design.specs.declared.strips.Strip.{Strip as Kept}
 use Rattle.book_design.specs.Records.{Records, Strip, strips_from, strip_of, strip_in, row_at}
-use Rattle.book_design.specs.Parts.{outline}
-use Rattle.book_design.specs.Strips.{strip_value, strip_values, IsStripInRange}
+use Rattle.book_design.specs.Forms.Parts.{outline}
+use Rattle.book_design.specs.Forms.Strips.{strip_value, strip_values, IsStripInRange}
 use Rattle.book_design.proofs.RowsSums.{width_fits}
 
 pub some_row : (r : ℕ) (rows : List RowEntry) (s : ℕ) → s < length (strips_from r rows) → 0 < length rows
@@ -19,8 +19,8 @@ first_in_range : (rows : List RowEntry) (d : RowEntry) → AllByRecursion IsRowI
 first_in_range [] d h below = absurd (omega arith)
 first_in_range (row ∷ rows) d h below = h.0
 
-pub row_in_range : (files : Records) → AllByRecursion IsRowInRange files.rows → 0 < length files.rows → IsRowInRange (row_at files 0)
-row_in_range files h below = first_in_range files.rows _ h below
+pub row_in_range : (records : Records) → AllByRecursion IsRowInRange records.rows → 0 < length records.rows → IsRowInRange (row_at records 0)
+row_in_range records h below = first_in_range records.rows _ h below
 
 strip_in_range : (r : ℕ) (row : RowEntry) (subrow : SubrowEntry) → IsRowInRange row → IsSubrowInRange subrow → IsStripInRange (outline (strip_of r row subrow))
 strip_in_range r row subrow h k =
@@ -64,6 +64,6 @@ values_of height r [] d even = refl
 values_of height r (row ∷ rows) d even =
     row_values height r row row.subrows (strips_from (1 + r) rows) (even 0 (omega arith)) (values_of height (1 + r) rows d (λ k below. even (suc k) (omega arith)))
 
-pub row_told : (all : List Strip) (kept : List Kept) (s : ℕ) (d : Kept) → kept ≡ map outline all → s < length all → (get_or kept s d).row ≡ (strip_in all s).row
-row_told all kept s d e below =
+pub row_named : (all : List Strip) (kept : List Kept) (s : ℕ) (d : Kept) → kept ≡ map outline all → s < length all → (get_or kept s d).row ≡ (strip_in all s).row
+row_named all kept s d e below =
     ap (λ (ks : List Kept). (get_or ks s d).row) e ∙ ap (λ (k : Kept). k.row) (get_or-map outline all s _ d below)

@@ -6,8 +6,8 @@ use Rattle.std.specs.List.{AllByRecursion}
 use Rattle.book_files.specs.Entries.{RowEntry}
 use Rattle.book_design.specs.declared.strips.Strip.{Strip as Kept}
 use Rattle.book_design.specs.Records.{strips_from, strip_of}
-use Rattle.book_design.specs.Parts.{outline}
-use Rattle.book_design.specs.RowParts.{row_outlines}
+use Rattle.book_design.specs.Forms.Parts.{outline}
+use Rattle.book_design.specs.Forms.RowParts.{row_outlines}
 use Rattle.book_design.proofs.Building.{map_map}
 
 -- the subrows of the rows before that one are laid
@@ -42,12 +42,6 @@ laid_more all rows r d row old new below e is h =
 pub append_none : {A : Type 0} (xs : List A) → xs ++ [] ≡ xs
 append_none [] = refl
 append_none (x ∷ xs) = ap (λ ys. x ∷ ys) (append_none xs)
-
-pub laid_whole : (all : List Kept) (rows : List RowEntry) (r : ℕ) (laid : List Kept) → length rows ≤ r → AreLaid all rows r laid → laid ≡ all
-laid_whole all rows r laid end h =
-    let none : drop r rows ≡ [] = drop_all r rows end in
-    let closed : map outline (strips_from r (drop r rows)) ≡ [] = ap (λ (rs : List RowEntry). map outline (strips_from r rs)) none in
-    sym (append_none laid) ∙ ap (λ (ks : List Kept). laid ++ ks) (sym closed) ∙ h.with_rest
 
 pub appended_more : {X Y : Type 0} (f : X → Y) (xs : List X) (i : ℕ) (d : X) (start old new : List Y) (a : Y) → i < length xs
     → old ≡ start ++ map f (take i xs) → new ≡ old ++ a ∷ [] → a ≡ f (get_or xs i d) → new ≡ start ++ map f (take (i + 1) xs)

@@ -2,6 +2,7 @@
 use Rattle.std.specs.Prelude.{◌≡◌, ◌⊎◌, ℕ, ◌^◌, ◌<◌, ◌≤◌, false, List, length, slice_index_or, ℤ, pos, ◌≤ℤ◌, ◌+ℤ◌, ◌*ℤ◌, ◌≢◌}
 use Rattle.std.specs.List.{AllByRecursion, sum_by}
 use Rattle.book_files.specs.Ranges.{IsInRange, IsName}
+use Rattle.book_design.specs.declared.rules.TheConstants.{MOST_NODES, MOST_PINS, MOST_SUBROWS, MOST_SITES, MOST_NET_WEIGHT, ROWS_END}
 use Rattle.book_design.specs.declared.parts.Pin.{Pin}
 use Rattle.book_design.specs.declared.parts.Subrow.{Subrow}
 use Rattle.book_design.specs.declared.parts.Core.{Core}
@@ -26,16 +27,16 @@ pub record IsGoodPin (nodes : ℕ) (pin : Pin) : Type 0 where
   pub dy : IsInRange pin.dy
 
 pub record IsGoodNet (nodes : ℕ) (net : NetValue) : Type 0 where
-  pub weight : net.weight ≤ 65535
+  pub weight : net.weight ≤ MOST_NET_WEIGHT
   pub pins : AllByRecursion (IsGoodPin nodes) net.pins
 
--- a subrow lies within 1,000,000 units
+-- a subrow begins within 1,000,000 units, and ends where rows may end at the latest
 pub record IsGoodSubrow (pitch row_height : ℤ) (subrow : Subrow) : Type 0 where
-  pub sites : subrow.sites ≤ 2 ^ 24
+  pub sites : subrow.sites ≤ MOST_SITES
   pub x : IsInRange subrow.x
   pub y : IsInRange subrow.y
-  pub right : (subrow.x +ℤ pos subrow.sites *ℤ pitch) ≤ℤ pos (10 ^ 12)
-  pub upper : (subrow.y +ℤ row_height) ≤ℤ pos (10 ^ 12)
+  pub right : (subrow.x +ℤ pos subrow.sites *ℤ pitch) ≤ℤ ROWS_END
+  pub upper : (subrow.y +ℤ row_height) ≤ℤ ROWS_END
 
 -- past the end there is a subrow without sites
 abbrev pub subrow_at : List Subrow → ℕ → Subrow
@@ -47,7 +48,7 @@ AreApart pitch row_height a b = (a.sites ≡ 0) ⊎ ((b.sites ≡ 0)
     ⊎ (((a.x +ℤ pos a.sites *ℤ pitch) ≤ℤ b.x) ⊎ (((b.x +ℤ pos b.sites *ℤ pitch) ≤ℤ a.x)
     ⊎ (((a.y +ℤ row_height) ≤ℤ b.y) ⊎ ((b.y +ℤ row_height) ≤ℤ a.y)))))
 
--- the core's ends lie within 1,000,000 units, the lower ones below the upper ones
+-- the core's ends lie within 1,000,000 units, and the lower ones are at most the upper ones
 pub record IsGoodCore (core : Core) : Type 0 where
   pub xlo : IsInRange core.xlo
   pub xhi : IsInRange core.xhi
@@ -57,10 +58,10 @@ pub record IsGoodCore (core : Core) : Type 0 where
   pub high : core.ylo ≤ℤ core.yhi
 
 pub record IsDesign (design : DesignValue) : Type 0 where
-  pub few_nodes : length design.nodes ≤ 2 ^ 20
-  pub few_pins : sum_by (λ net. length net.pins) design.nets ≤ 2 ^ 24
+  pub few_nodes : length design.nodes ≤ MOST_NODES
+  pub few_pins : sum_by (λ net. length net.pins) design.nets ≤ MOST_PINS
   pub few_nets : length design.nets < 2 ^ 32
-  pub few_subrows : length design.subrows ≤ 2 ^ 16
+  pub few_subrows : length design.subrows ≤ MOST_SUBROWS
   pub nodes : AllByRecursion (IsGoodNode design.row_height) design.nodes
   pub distinct : (i j : ℕ) → i < j → j < length design.nodes → (node_value_at design.nodes i).name ≢ (node_value_at design.nodes j).name
   pub nets : AllByRecursion (IsGoodNet (length design.nodes)) design.nets

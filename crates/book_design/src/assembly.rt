@@ -2,13 +2,14 @@
 
 ghost use Rattle.std.specs.Prelude.{◌≡◌, ℕ, ◌<◌, ◌≤◌, ◌^◌, map, length, IfOk, Some, None};
 ghost use Rattle.std.specs.Int.{int_min, int_max};
+ghost use Rattle.book_design.specs.declared.rules.TheConstants.{MOST_SITES};
 ghost use Rattle.book_design.specs.Joined.{Joins, joined_node};
 ghost use Rattle.book_design.specs.Values.{node_values};
 ghost use Rattle.book_design.specs.Nets.{net_values};
-ghost use Rattle.book_design.specs.Steps.{IsFreeFrom};
-ghost use Rattle.book_design.specs.Sources.{files_of, AreInRange};
-ghost use Rattle.book_design.specs.Parts.{outlines, pinned_net, joined_kept, kept_at, IsShape};
-ghost use Rattle.book_design.specs.Assembly.{IsNarrow, AreNarrow, HasSiteBefore, IsCoreOf, core_with};
+ghost use Rattle.book_design.specs.Forms.Steps.{IsSound};
+ghost use Rattle.book_design.specs.Forms.Sources.{records_of, AreInRange};
+ghost use Rattle.book_design.specs.Forms.Parts.{outlines, pinned_net, joined_kept, kept_at, IsShape};
+ghost use Rattle.book_design.specs.Forms.Assembly.{IsNarrow, AreNarrow, HasSiteBefore, IsCoreOf, core_with};
 
 use crate::design::{Design, point_lists};
 use crate::parts::{Core, Net, Node, Subrow};
@@ -20,20 +21,20 @@ use std::alloc::{AllocError, Global};
 /// The design of these parts of files without a fault.
 pub(crate) fn assemble<'a>(
     alloc: Global,
-    files: &Sources<'_, 'a>,
+    records: &Sources<'_, 'a>,
     nodes: Vec<Node<'a>>,
     nets: Vec<Net>,
     strips: &[Strip],
     shape: &RowShape,
 ) -> Result<Design<'a>, AllocError>
-    requires few_nets { length (files_of files.now).nets < 2 ^ 32 }
-    requires ranges { AreInRange (files_of files.now) }
-    requires nodes { node_values nodes.items ≡ map (joined_node (files_of files.now)) (files_of files.now).nodes }
-    requires nets { net_values nets.items ≡ map (pinned_net (files_of files.now)) (files_of files.now).nets }
-    requires strips { strips.now ≡ outlines (files_of files.now) }
-    requires shape { IsShape (files_of files.now) shape.now }
-    requires free { IsFreeFrom (files_of files.now) 1 14 }
-    ensures { IfOk result (Joins (files_of files.now)) }
+    requires few_nets { length (records_of records.now).nets < 2 ^ 32 }
+    requires ranges { AreInRange (records_of records.now) }
+    requires nodes { node_values nodes.items ≡ map (joined_node (records_of records.now)) (records_of records.now).nodes }
+    requires nets { net_values nets.items ≡ map (pinned_net (records_of records.now)) (records_of records.now).nets }
+    requires strips { strips.now ≡ outlines (records_of records.now) }
+    requires shape { IsShape (records_of records.now) shape.now }
+    requires free { IsSound (records_of records.now) }
+    ensures { IfOk result (Joins (records_of records.now)) }
 {
     let points = point_lists(alloc, &nodes)?;
     let subrows = plain_subrows(alloc, strips)?;
@@ -43,7 +44,7 @@ pub(crate) fn assemble<'a>(
 
 /// The subrows as the design keeps them.
 fn plain_subrows(alloc: Global, strips: &[Strip]) -> Result<Vec<Subrow>, AllocError>
-    requires { (s : ℕ) → s < length strips.now → (kept_at strips.now s).sites ≤ 2 ^ 24 }
+    requires { (s : ℕ) → s < length strips.now → (kept_at strips.now s).sites ≤ MOST_SITES }
     ensures { IfOk result (λ subrows. subrows.items ≡ map joined_kept strips.now) }
 {
     let mut subrows = Vec::new(alloc);

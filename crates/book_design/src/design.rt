@@ -4,7 +4,7 @@ ghost use Rattle.book_design.specs.Values.{node_values};
 ghost use Rattle.book_design.specs.Nets.{net_values};
 ghost use Rattle.book_design.specs.Points.{is_movable, node_value_at, movable_before, IsNodeOf, site_count};
 ghost use Rattle.book_design.specs.WellFormed.{IsDesign};
-ghost use Rattle.book_design.specs.Assembly.{ArePoints, design_value};
+ghost use Rattle.book_design.specs.Forms.Assembly.{ArePoints, design_value};
 
 use crate::parts::{Core, Net, Node, Subrow};
 use crate::rows::RowShape;
@@ -34,7 +34,7 @@ impl<'a> Model for Design<'a> {
     ghost use Rattle.book_design.specs.Values.{DesignValue, node_values};
     ghost use Rattle.book_design.specs.Nets.{net_values};
     ghost use Rattle.book_design.specs.WellFormed.{IsDesign};
-    ghost use Rattle.book_design.specs.Assembly.{ArePoints};
+    ghost use Rattle.book_design.specs.Forms.Assembly.{ArePoints};
     ghost use Rattle.std.specs.Prelude.{length};
 
     ghost Value = { DesignValue };
@@ -133,7 +133,8 @@ impl<'a> Design<'a> {
 
     /// How many points there are: the movable nodes, numbered in the order of the nodes.
     pub fn points(&self) -> usize
-        ensures { result ≡ count_by is_movable self.now.nodes }
+        ensures count { result ≡ count_by is_movable self.now.nodes }
+        ensures valid { IsDesign self.now }
     {
         self.points.movable.len()
     }
@@ -141,7 +142,8 @@ impl<'a> Design<'a> {
     /// The number of the node that is this point.
     pub fn node_of(&self, point: u32) -> u32
         requires { point < count_by is_movable self.now.nodes }
-        ensures { IsNodeOf self.now.nodes point result }
+        ensures node { IsNodeOf self.now.nodes point result }
+        ensures valid { IsDesign self.now }
     {
         self.points.movable[point as usize]
     }
@@ -149,7 +151,8 @@ impl<'a> Design<'a> {
     /// How many sites this point's node takes.
     pub fn sites_of(&self, point: u32) -> u64
         requires { point < count_by is_movable self.now.nodes }
-        ensures { (i : ℕ) → IsNodeOf self.now.nodes point i → result ≡ site_count (node_value_at self.now.nodes i).width self.now.pitch }
+        ensures sites { (i : ℕ) → IsNodeOf self.now.nodes point i → result ≡ site_count (node_value_at self.now.nodes i).width self.now.pitch }
+        ensures valid { IsDesign self.now }
     {
         let node = self.points.movable[point as usize];
         sites_across(self.nodes[node as usize].width, self.pitch)
@@ -158,7 +161,8 @@ impl<'a> Design<'a> {
     /// The point that is the node of this number, and none for a fixed node.
     pub fn point_of(&self, node: u32) -> Option<u32>
         requires { node < length self.now.nodes }
-        ensures { result ≡ (if (node_value_at self.now.nodes node).fixed then None else Some (movable_before self.now.nodes node)) }
+        ensures point { result ≡ (if (node_value_at self.now.nodes node).fixed then None else Some (movable_before self.now.nodes node)) }
+        ensures valid { IsDesign self.now }
     {
         if self.nodes[node as usize].fixed {
             None

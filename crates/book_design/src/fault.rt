@@ -1,7 +1,10 @@
+ghost use Rattle.std.specs.Prelude.{◌≡◌};
+ghost use Rattle.book_design.specs.declared.fault.DesignFault.TheVariants.{Limit};
+
 use book_files::FileKind;
 use std::alloc::{AllocError, AllocFailed};
 
-/// What is wrong with files that are each well-formed. The first of these that holds is told, at its first place.
+/// What is wrong with files that are each well-formed. The first of these that holds is named, at its first place.
 #[derive(Clone, Copy, Debug, PartialEq, Eq)]
 pub enum DesignFault {
     /// A line of the nodes file whose name stood on an earlier line.
@@ -29,6 +32,24 @@ pub enum JoinError {
     Fault(DesignFault),
     /// Want of memory.
     Memory,
+}
+
+/// The fault that a quantity is past the limit of this kind.
+pub(crate) fn past_limit(kind: u8, number: u64) -> DesignFault
+    ensures { result ≡ Limit kind number }
+{
+    DesignFault::Limit { kind, number }
+}
+
+impl From<DesignFault> for JoinError {
+    ghost use Rattle.std.specs.Prelude.{◌≡◌};
+    ghost use Rattle.book_design.specs.declared.fault.JoinError.TheVariants.{Fault};
+
+    ghost from_gives = { λ fault e. e ≡ Fault fault };
+
+    fn from(fault: DesignFault) -> JoinError {
+        JoinError::Fault(fault)
+    }
 }
 
 impl From<AllocError> for JoinError {

@@ -1,12 +1,12 @@
 ghost use Rattle.std.specs.Prelude.{◌≡◌, ◌<◌, ◌^◌, length, option_map, MatchResult};
 ghost use Rattle.book_design.specs.Answers.{Answers};
 ghost use Rattle.book_design.specs.Joined.{Joins};
-ghost use Rattle.book_design.specs.Steps.{IsFreeFrom, Stops};
+ghost use Rattle.book_design.specs.Forms.Steps.{IsFreeFrom, Stops};
 ghost use Rattle.book_files.specs.Entries.{weight_entries};
-ghost use Rattle.book_design.specs.Sources.{files_of, AreInRange};
+ghost use Rattle.book_design.specs.Forms.Sources.{records_of, AreInRange};
 
 use crate::assembly::assemble;
-use crate::counts::test_counts;
+use crate::counts::{pin_total, test_counts};
 use crate::design::Design;
 use crate::fault::JoinError;
 use crate::limits::test_values;
@@ -34,14 +34,14 @@ pub fn join_design<'a>(
     requires few_rows { length scl.now < 2 ^ 32 }
     ensures { Answers (record { nodes = nodes.now; nets = nets.now; weights = option_map (λ w. w.now) wts.entry; places = pl.now; rows = scl.now }) result }
 {
-    let files = Sources {
+    let records = Sources {
         nodes: nodes.as_slice(),
         nets: nets.as_slice(),
         weights: weight_lines(wts),
         places: pl.as_slice(),
         rows: scl.as_slice(),
     };
-    join_files(alloc, &files)
+    join_files(alloc, &records)
 }
 
 /// The lines of the weights file, where there is one.
@@ -55,21 +55,22 @@ fn weight_lines<'s, 'a>(wts: Option<&'s WeightFile<'a>>) -> Option<&'s [WeightLi
 }
 
 /// The design, or the first fault: each step tests what no step before it has tested.
-fn join_files<'a>(alloc: Global, files: &Sources<'_, 'a>) -> Result<Design<'a>, JoinError>
-    requires few_nodes { length (files_of files.now).nodes < 2 ^ 32 }
-    requires few_nets { length (files_of files.now).nets < 2 ^ 32 }
-    requires few_rows { length (files_of files.now).rows < 2 ^ 32 }
-    requires ranges { AreInRange (files_of files.now) }
-    ensures { MatchResult result (λ design. IsFreeFrom (files_of files.now) 1 14 × Joins (files_of files.now) design) (Stops (files_of files.now) 1) }
+fn join_files<'a>(alloc: Global, records: &Sources<'_, 'a>) -> Result<Design<'a>, JoinError>
+    requires few_nodes { length (records_of records.now).nodes < 2 ^ 32 }
+    requires few_nets { length (records_of records.now).nets < 2 ^ 32 }
+    requires few_rows { length (records_of records.now).rows < 2 ^ 32 }
+    requires ranges { AreInRange (records_of records.now) }
+    ensures { MatchResult result (λ design. IsFreeFrom (records_of records.now) 1 14 × Joins (records_of records.now) design) (Stops (records_of records.now) 1) }
 {
-    let numbers = node_numbers(alloc, files)?;
-    let weights = net_weights(alloc, files)?;
-    let nets = join_nets(alloc, files, &numbers, &weights)?;
-    let nodes = join_nodes(alloc, files)?;
-    let strips = lay_strips(alloc, files)?;
-    let shape = even_rows(files, &strips)?;
-    test_apart(alloc, files, &strips, &shape)?;
-    test_counts(files, &nodes, &strips, &shape)?;
-    test_values(files, &strips, &weights)?;
-    Ok(assemble(alloc, files, nodes, nets, &strips, &shape)?)
+    let numbers = node_numbers(alloc, records)?;
+    let weights = net_weights(alloc, records)?;
+    let nets = join_nets(alloc, records, &numbers, &weights)?;
+    let nodes = join_nodes(alloc, records)?;
+    let strips = lay_strips(alloc, records)?;
+    let shape = even_rows(records, &strips)?;
+    test_apart(alloc, records, &strips, &shape)?;
+    let pins = pin_total(records.nets)?;
+    test_counts(records, &nodes, &strips, &shape, pins)?;
+    test_values(records, &strips, &weights)?;
+    Ok(assemble(alloc, records, nodes, nets, &strips, &shape)?)
 }

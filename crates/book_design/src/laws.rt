@@ -3,7 +3,7 @@
 ghost use Rattle.book_design.specs.Records.{Records};
 ghost use Rattle.book_design.specs.Answers.{HasOneJoin};
 
-/// The files make at most one design or have at most one first fault, never both.
+/// Whatever the files say, they make a design or have a first fault, one alone and never both.
 pub fn one_join()
-    ensures { (files : Records) → HasOneJoin files }
+    ensures { (records : Records) → HasOneJoin records }
 {}

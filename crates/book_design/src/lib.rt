@@ -1,11 +1,12 @@
-//! The joined design: the nodes, nets and rows of a Bookshelf design, with names looked up and limits tested.
+//! Joins the records of a design's files: names looked up, rows laid out, limits tested.
 //!
-//! It stands on the files' records, and below the network, the rows and the report. What comes in are the records of the
-//! five files; what goes out is one design in which pins name their nodes by number, or the first fault of the files
-//! together: its kind by their order, at its first place.
+//! It stands behind the readers of the files (`book_files`) and before the network. What comes in are the records of the
+//! `.nodes`, `.nets`, `.pl` and `.scl` files, and of the `.wts` file where there is one; what goes out is one `Design`, in
+//! which pins name their nodes by number, or the first fault that the records have together: its kind by their order, at
+//! its first place.
 //!
-//! The contract: `join_design` meets `Answers`: an `Ok` is what the files make where they have no fault, and a fault is
-//! exactly the first one.
+//! The one contract: `join_design` meets `Answers`: an `Ok` is the design that the records make, which have no fault; a
+//! fault is exactly the first one.
 #![tactic(auto)]
 
 mod assembly;
@@ -22,6 +23,7 @@ mod overlap;
 mod parts;
 mod pins;
 mod rows;
+mod rules;
 mod sources;
 mod strips;
 
@@ -31,6 +33,7 @@ pub use join::join_design;
 pub use laws::one_join;
 pub use parts::{Core, Net, Node, Pin, Subrow};
 pub use pins::PinList;
+pub use rules::{MOST_NET_WEIGHT, MOST_NODES, MOST_PINS, MOST_SITES, MOST_SUBROWS, ROWS_END};
 
 #[cfg(test)]
 mod tests;

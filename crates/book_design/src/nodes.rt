@@ -1,13 +1,14 @@
 //! The nodes with their places.
 
-ghost use Rattle.std.specs.Prelude.{◌≡◌, ◌<◌, ◌^◌, map, length, option_map, MatchResult};
+ghost use Rattle.std.specs.Prelude.{◌≡◌, ℕ, ◌<◌, ◌^◌, map, length, option_map, MatchResult};
 ghost use Rattle.book_files.specs.Entries.{node_entry, place_entry};
 ghost use Rattle.book_design.specs.Records.{last_place};
 ghost use Rattle.book_design.specs.Joined.{joined_node, placed};
 ghost use Rattle.book_design.specs.Values.{node_value, node_values};
-ghost use Rattle.book_design.specs.Steps.{IsFree, Stops};
-ghost use Rattle.book_design.specs.Numbers.{AreNumbers};
-ghost use Rattle.book_design.specs.Sources.{files_of, place_name};
+ghost use Rattle.book_design.specs.Faults.{IsWithoutPlace};
+ghost use Rattle.book_design.specs.Forms.Steps.{Stops};
+ghost use Rattle.book_design.specs.Forms.Numbers.{AreNumbers};
+ghost use Rattle.book_design.specs.Forms.Sources.{records_of, place_name};
 
 use crate::fault::{DesignFault, JoinError};
 use crate::numbers::{Numbers, number, place_numbers};
@@ -19,15 +20,15 @@ use std::alloc::Global;
 /// The nodes with the places that the placement file gives them last, where each terminal has one.
 pub(crate) fn join_nodes<'a>(
     alloc: Global,
-    files: &Sources<'_, 'a>,
+    records: &Sources<'_, 'a>,
 ) -> Result<Vec<Node<'a>>, JoinError>
-    requires { length (files_of files.now).nodes < 2 ^ 32 }
-    ensures { MatchResult result (λ nodes. IsFree (files_of files.now) 3 × (node_values nodes.items ≡ map (joined_node (files_of files.now)) (files_of files.now).nodes)) (Stops (files_of files.now) 3) }
+    requires { length (records_of records.now).nodes < 2 ^ 32 }
+    ensures { MatchResult result (λ nodes. ((i : ℕ) → IsWithoutPlace (records_of records.now) i → ⊥) × (node_values nodes.items ≡ map (joined_node (records_of records.now)) (records_of records.now).nodes)) (Stops (records_of records.now) 3) }
 {
-    let numbers = place_numbers(alloc, files)?;
+    let numbers = place_numbers(alloc, records)?;
     let mut nodes = Vec::new(alloc);
-    for (i, node) in files.nodes.iter().enumerate() {
-        let place = place_of(files, &numbers, node.name.0);
+    for (i, node) in records.nodes.iter().enumerate() {
+        let place = place_of(records, &numbers, node.name.0);
         if node.fixed && place.is_none() {
             return Err(JoinError::Fault(DesignFault::NoPosition { node: i as u32 }));
         }
@@ -38,15 +39,15 @@ pub(crate) fn join_nodes<'a>(
 
 /// The last line of the placement file with this name.
 fn place_of<'a>(
-    files: &Sources<'_, 'a>,
+    records: &Sources<'_, 'a>,
     numbers: &Numbers<'a>,
     name: &[u8],
 ) -> Option<PlaceLine<'a>>
-    requires { AreNumbers (place_name (files_of files.now)) (length (files_of files.now).places) numbers.now }
-    ensures { option_map place_entry result ≡ last_place (files_of files.now) name.now }
+    requires { AreNumbers (place_name (records_of records.now)) (length (records_of records.now).places) numbers.now }
+    ensures { option_map place_entry result ≡ last_place (records_of records.now) name.now }
 {
     match number(numbers, name) {
-        Some(i) => Some(files.places[i]),
+        Some(i) => Some(records.places[i]),
         None => None,
     }
 }

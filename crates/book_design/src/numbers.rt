@@ -3,9 +3,10 @@
 ghost use Rattle.std.specs.Prelude.{◌≡◌, ℕ, List, length, Some, IfOk, OnOk, MatchResult, if◌then◌else◌};
 ghost use Rattle.std.specs.Str.{bytes_eq};
 ghost use Rattle.book_design.specs.Records.{weight_lines};
-ghost use Rattle.book_design.specs.Steps.{IsFree, Stops};
-ghost use Rattle.book_design.specs.Numbers.{number_in, AreNumbers};
-ghost use Rattle.book_design.specs.Sources.{files_of, node_name, place_name, weight_name, entry_name};
+ghost use Rattle.book_design.specs.Faults.{HasEarlierName};
+ghost use Rattle.book_design.specs.Forms.Steps.{Stops};
+ghost use Rattle.book_design.specs.Forms.Numbers.{number_in, AreNumbers};
+ghost use Rattle.book_design.specs.Forms.Sources.{records_of, node_name, place_name, weight_name, entry_name};
 ghost use Rattle.book_files.specs.Entries.{weight_entries};
 
 use crate::fault::{DesignFault, JoinError};
@@ -17,7 +18,7 @@ use std::collections::BTreeMap;
 /// The number of the last line that has a name, by name.
 pub(crate) type Numbers<'a> = BTreeMap<&'a [u8], usize>;
 
-/// Gives the name this number from now on, and tells the one that it had.
+/// Gives the name this number from now on, and answers the one that it had.
 fn put<'a>(
     numbers: &mut Numbers<'a>,
     name: &'a [u8],
@@ -39,12 +40,12 @@ pub(crate) fn number(numbers: &Numbers<'_>, name: &[u8]) -> Option<usize>
 /// The numbers of the nodes by their names, which are distinct.
 pub(crate) fn node_numbers<'a>(
     alloc: Global,
-    files: &Sources<'_, 'a>,
+    records: &Sources<'_, 'a>,
 ) -> Result<Numbers<'a>, JoinError>
-    ensures { MatchResult result (λ numbers. IsFree (files_of files.now) 1 × AreNumbers (node_name (files_of files.now)) (length (files_of files.now).nodes) numbers) (Stops (files_of files.now) 1) }
+    ensures { MatchResult result (λ numbers. ((i : ℕ) → HasEarlierName (records_of records.now) i → ⊥) × AreNumbers (node_name (records_of records.now)) (length (records_of records.now).nodes) numbers) (Stops (records_of records.now) 1) }
 {
     let mut numbers = BTreeMap::new(alloc);
-    for (i, node) in files.nodes.iter().enumerate() {
+    for (i, node) in records.nodes.iter().enumerate() {
         let before = put(&mut numbers, node.name.0, i)?;
         if before.is_some() {
             return Err(JoinError::Fault(DesignFault::DuplicateName { line: node.line }));
@@ -56,12 +57,12 @@ pub(crate) fn node_numbers<'a>(
 /// The last lines of the placement file by their names.
 pub(crate) fn place_numbers<'a>(
     alloc: Global,
-    files: &Sources<'_, 'a>,
+    records: &Sources<'_, 'a>,
 ) -> Result<Numbers<'a>, AllocError>
-    ensures { IfOk result (AreNumbers (place_name (files_of files.now)) (length (files_of files.now).places)) }
+    ensures { IfOk result (AreNumbers (place_name (records_of records.now)) (length (records_of records.now).places)) }
 {
     let mut numbers = BTreeMap::new(alloc);
-    for (i, place) in files.places.iter().enumerate() {
+    for (i, place) in records.places.iter().enumerate() {
         put(&mut numbers, place.name.0, i)?;
     }
     Ok(numbers)
@@ -70,11 +71,11 @@ pub(crate) fn place_numbers<'a>(
 /// The last lines of the weights file by their names.
 pub(crate) fn weight_numbers<'a>(
     alloc: Global,
-    files: &Sources<'_, 'a>,
+    records: &Sources<'_, 'a>,
 ) -> Result<Numbers<'a>, AllocError>
-    ensures { IfOk result (AreNumbers (weight_name (files_of files.now)) (length (weight_lines (files_of files.now)))) }
+    ensures { IfOk result (AreNumbers (weight_name (records_of records.now)) (length (weight_lines (records_of records.now)))) }
 {
-    match files.weights {
+    match records.weights {
         Some(lines) => line_numbers(alloc, lines),
         None => Ok(BTreeMap::new(alloc)),
     }

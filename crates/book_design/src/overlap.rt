@@ -7,8 +7,8 @@
 ghost use Rattle.std.specs.Prelude.{◌≡◌, ◌*◌, ◌≤◌, ◌^◌, ◌↔◌, ℤ, ◌+ℤ◌, pos, neg_ℤ, ◌≤ℤ◌, ◌<ℤ◌, IfOk, OnOk, IsTrue, MatchBool, MatchOption};
 ghost use Rattle.std.specs.Int.{int_max, int_min};
 ghost use Rattle.std.specs.List.{AllByRecursion};
-ghost use Rattle.book_design.specs.Strips.{strip_values, IsFirstOverlap, IsStripInRange};
-ghost use Rattle.book_design.specs.Overlap.{band, Meet, IsApart, StandAtLeftEdges, IsLastBefore, HasNoneBefore, MeetsOne, MeetsNoneOf, MeetsNone, HasAlso};
+ghost use Rattle.book_design.specs.Forms.Strips.{strip_values, IsFirstOverlap, IsStripInRange};
+ghost use Rattle.book_design.specs.Forms.Overlap.{band, Meet, IsApart, StandAtLeftEdges, IsLastBefore, HasNoneBefore, MeetsOne, MeetsNoneOf, MeetsNone, HasAlso};
 
 use crate::strips::Strip;
 use std::alloc::{AllocError, Global};

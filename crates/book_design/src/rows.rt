@@ -1,14 +1,14 @@
 //! The rows and their subrows.
 
-ghost use Rattle.std.specs.Prelude.{◌≡◌, ◌<◌, ◌^◌, ◌++◌, length, IfOk, OnOk, MatchBool, MatchOption, MatchResult};
+ghost use Rattle.std.specs.Prelude.{◌≡◌, ℕ, ◌<◌, ◌^◌, ◌++◌, length, IfOk, OnOk, MatchBool, MatchOption, MatchResult};
 ghost use Rattle.std.specs.List.{AllByRecursion};
-ghost use Rattle.book_design.specs.Steps.{IsFreeFrom, IsFree, Stops};
-ghost use Rattle.book_design.specs.Strips.{IsStripInRange};
-ghost use Rattle.book_design.specs.Sources.{files_of, AreInRange};
-ghost use Rattle.book_design.specs.Parts.{outline, outlines, IsShape};
-ghost use Rattle.book_design.specs.Records.{strip_of};
-ghost use Rattle.book_design.specs.RowParts.{row_outlines, HaveSite, HaveNoSite, HasShape, HasOtherShape};
-ghost use Rattle.book_design.specs.Faults.{IsFirst, IsMixedRow};
+ghost use Rattle.book_design.specs.Forms.Steps.{IsFirstFrom, Stops};
+ghost use Rattle.book_design.specs.Forms.Strips.{IsStripInRange};
+ghost use Rattle.book_design.specs.Forms.Sources.{records_of, AreInRange};
+ghost use Rattle.book_design.specs.Forms.Parts.{outline, outlines, IsShape};
+ghost use Rattle.book_design.specs.Records.{strip_of, strips as all_strips};
+ghost use Rattle.book_design.specs.Forms.RowParts.{row_outlines, IsEven, HaveSite, HaveNoSite, HasShape, HasOtherShape};
+ghost use Rattle.book_design.specs.Faults.{IsFirst, IsMixedRow, IsOverlapping};
 ghost use Rattle.book_files.specs.Entries.{subrow_entry};
 ghost use Rattle.book_files.specs.Blocks.{row_entry};
 ghost use Rattle.book_files.specs.Ranges.{IsRowInRange, IsSubrowInRange};
@@ -28,13 +28,13 @@ pub(crate) struct RowShape {
 }
 
 /// All subrows in file order.
-pub(crate) fn lay_strips(alloc: Global, files: &Sources<'_, '_>) -> Result<Vec<Strip>, AllocError>
-    requires few_rows { length (files_of files.now).rows < 2 ^ 32 }
-    requires ranges { AreInRange (files_of files.now) }
-    ensures { IfOk result (λ strips. strips.items ≡ outlines (files_of files.now)) }
+pub(crate) fn lay_strips(alloc: Global, records: &Sources<'_, '_>) -> Result<Vec<Strip>, AllocError>
+    requires few_rows { length (records_of records.now).rows < 2 ^ 32 }
+    requires ranges { AreInRange (records_of records.now) }
+    ensures { IfOk result (λ strips. strips.items ≡ outlines (records_of records.now)) }
 {
     let mut strips = Vec::new(alloc);
-    for (i, row) in files.rows.iter().enumerate() {
+    for (i, row) in records.rows.iter().enumerate() {
         lay_row(&mut strips, i as u32, row)?;
     }
     Ok(strips)
@@ -67,21 +67,21 @@ fn strip_in(number: u32, row: &RowBlock, subrow: &SubrowLine) -> Strip
 }
 
 /// The shape of all rows, where some subrow has a site and each row has that shape.
-pub(crate) fn even_rows(files: &Sources<'_, '_>, strips: &[Strip]) -> Result<RowShape, JoinError>
-    requires few_rows { length (files_of files.now).rows < 2 ^ 32 }
-    requires strips { strips.now ≡ outlines (files_of files.now) }
-    ensures { MatchResult result (λ shape. IsFreeFrom (files_of files.now) 4 6 × IsShape (files_of files.now) shape) (Stops (files_of files.now) 4) }
+pub(crate) fn even_rows(records: &Sources<'_, '_>, strips: &[Strip]) -> Result<RowShape, DesignFault>
+    requires few_rows { length (records_of records.now).rows < 2 ^ 32 }
+    requires strips { strips.now ≡ outlines (records_of records.now) }
+    ensures { MatchResult result (IsEven (records_of records.now)) (IsFirstFrom (records_of records.now) 4) }
 {
     if !have_site(strips) {
-        return Err(JoinError::Fault(DesignFault::NoRows));
+        return Err(DesignFault::NoRows);
     }
-    let first = &files.rows[0];
+    let first = &records.rows[0];
     let shape = RowShape {
         height: first.height.0,
         pitch: first.pitch.0,
     };
-    match mixed_row(files, &shape) {
-        Some(row) => Err(JoinError::Fault(DesignFault::MixedRows { row })),
+    match mixed_row(records, &shape) {
+        Some(row) => Err(DesignFault::MixedRows { row }),
         None => Ok(shape),
     }
 }
@@ -99,12 +99,12 @@ fn have_site(strips: &[Strip]) -> bool
 }
 
 /// The first row that doesn't have the shape of row 0.
-fn mixed_row(files: &Sources<'_, '_>, shape: &RowShape) -> Option<u32>
-    requires few_rows { length (files_of files.now).rows < 2 ^ 32 }
-    requires shape { IsShape (files_of files.now) shape.now }
-    ensures { MatchOption result (IsFree (files_of files.now) 5) (IsFirst (IsMixedRow (files_of files.now))) }
+fn mixed_row(records: &Sources<'_, '_>, shape: &RowShape) -> Option<u32>
+    requires few_rows { length (records_of records.now).rows < 2 ^ 32 }
+    requires shape { IsShape (records_of records.now) shape.now }
+    ensures { MatchOption result ((r : ℕ) → IsMixedRow (records_of records.now) r → ⊥) (IsFirst (IsMixedRow (records_of records.now))) }
 {
-    for (i, row) in files.rows.iter().enumerate() {
+    for (i, row) in records.rows.iter().enumerate() {
         if !has_shape(row, shape) {
             return Some(i as u32);
         }
@@ -121,15 +121,14 @@ fn has_shape(row: &RowBlock, shape: &RowShape) -> bool
 /// Tests that no subrow shares area with an earlier one.
 pub(crate) fn test_apart(
     alloc: Global,
-    files: &Sources<'_, '_>,
+    records: &Sources<'_, '_>,
     strips: &[Strip],
     shape: &RowShape,
 ) -> Result<(), JoinError>
-    requires ranges { AreInRange (files_of files.now) }
-    requires strips { strips.now ≡ outlines (files_of files.now) }
-    requires even { IsFreeFrom (files_of files.now) 4 6 }
-    requires shape { IsShape (files_of files.now) shape.now }
-    ensures { MatchResult result (λ _. IsFree (files_of files.now) 6) (Stops (files_of files.now) 6) }
+    requires ranges { AreInRange (records_of records.now) }
+    requires strips { strips.now ≡ outlines (records_of records.now) }
+    requires even { IsEven (records_of records.now) shape.now }
+    ensures { MatchResult result (λ _. (s : ℕ) → IsOverlapping (all_strips (records_of records.now)) s → ⊥) (Stops (records_of records.now) 6) }
 {
     match first_overlap(alloc, strips, shape.height)? {
         Some(s) => Err(JoinError::Fault(DesignFault::RowsOverlap { row: strips[s].row })),

@@ -97,8 +97,9 @@ fn join<'a>(rt: &impl Abort, alloc: Global, texts: &Texts<'a>) -> Result<Design<
 /// The first fault of these files, if they have one.
 fn fault_of(rt: &impl Abort, alloc: Global, texts: &Texts<'_>) -> Option<DesignFault> {
     match join(rt, alloc, texts) {
+        Ok(_) => None,
         Err(JoinError::Fault(fault)) => Some(fault),
-        _ => None,
+        Err(JoinError::Memory) => panic!(rt; "no memory"),
     }
 }
 
@@ -198,7 +199,7 @@ fn the_rows_of_a_design_are_joined(rt: HostRuntime) {
 }
 
 #[test]
-fn the_points_of_a_design_are_told(rt: HostRuntime) {
+fn the_points_of_a_design_are_named(rt: HostRuntime) {
     let design = join(&rt, rt.alloc(), &B).expect(&rt, "design B");
     assert_eq!(rt; design.points(), 2);
     assert_eq!(rt; (design.node_of(0), design.node_of(1)), (0, 1));
@@ -570,7 +571,7 @@ const FAULTY: [(Texts, DesignFault); 20] = [
 ];
 
 #[test]
-fn the_first_fault_is_told(rt: HostRuntime) {
+fn the_first_fault_is_named(rt: HostRuntime) {
     for (texts, fault) in &FAULTY {
         assert_eq!(rt; fault_of(&rt, rt.alloc(), texts), Some(*fault));
     }
@@ -606,4 +607,26 @@ fn subrows_without_sites_count(rt: HostRuntime) {
         let texts = Texts { scl: &scl, ..A };
         assert_eq!(rt; fault_of(&rt, rt.alloc(), &texts), fault);
     }
+}
+
+/// One net with so many pins, all of one node.
+fn crowded_net(alloc: Global, header: &[u8], pins: u32) -> Result<Vec<u8>, AllocError> {
+    let mut text = Vec::new(alloc);
+    text.extend_from_slice(header)?;
+    for _ in 0..pins {
+        text.extend_from_slice(b"a\n")?;
+    }
+    Ok(text)
+}
+
+#[test]
+fn too_many_pins_are_named(rt: HostRuntime) {
+    let header = b"UCLA nets 1.0\nNumNets : 1\nNumPins : 16777217\nNetDegree : 16777217\n";
+    let nets = crowded_net(rt.alloc(), header, 16_777_217).expect(&rt, "memory");
+    let texts = Texts { nets: &nets, ..A };
+    let fault = DesignFault::Limit {
+        kind: 2,
+        number: 16_777_217,
+    };
+    assert_eq!(rt; fault_of(&rt, rt.alloc(), &texts), Some(fault));
 }

@@ -1,7 +1,7 @@
 use Rattle.std.proofs.Common.{◌≡◌, subst, arith, length, ℤ, w64, to_z, of_z}
 use Rattle.std.proofs.lemmas.List.{get_or_default}
 use Rattle.std.proofs.lemmas.Int.{to_z-of_z}
-use Rattle.book_design.specs.Assembly.{IsCoreOf}
+use Rattle.book_design.specs.Forms.Assembly.{IsCoreOf}
 use Rattle.book_design.proofs.AssemblyCore.{widened_more, core_whole}
 use Rattle.book_design.proofs.assembly.core_of.Goals as goal
 

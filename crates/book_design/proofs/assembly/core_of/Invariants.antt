@@ -1,4 +1,4 @@
-use Rattle.book_design.specs.Assembly.{IsCoreUpTo}
+use Rattle.book_design.proofs.AssemblyCore.{IsCoreUpTo}
 use Rattle.book_design.proofs.assembly.core_of.Given as goal
 
 abbrev pub invariant-loop-strip : goal.invariant-loop-strip

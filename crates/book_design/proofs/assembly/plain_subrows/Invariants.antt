@@ -1,5 +1,5 @@
 use Rattle.std.proofs.Common.{◌≡◌, map, take}
-use Rattle.book_design.specs.Parts.{joined_kept}
+use Rattle.book_design.specs.Forms.Parts.{joined_kept}
 use Rattle.book_design.proofs.assembly.plain_subrows.Given as goal
 
 abbrev pub invariant-loop-strip : goal.invariant-loop-strip

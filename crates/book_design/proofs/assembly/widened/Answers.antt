@@ -1,7 +1,7 @@
 use Rattle.std.proofs.Common.{◌≡◌, ◌∙◌, sym, ap, Some, Option, None, w64}
 use Rattle.std.proofs.lemmas.Int.{to_z-of_z}
 use Rattle.std.specs.Int.{int_min, int_max}
-use Rattle.book_design.specs.Assembly.{core_with}
+use Rattle.book_design.specs.Forms.Assembly.{core_with}
 use Rattle.book_design.specs.declared.parts.Core.{Core}
 use Rattle.book_design.proofs.assembly.widened.Goals as goal
 

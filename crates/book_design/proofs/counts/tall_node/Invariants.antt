@@ -1,6 +1,6 @@
 use Rattle.std.proofs.Common.{ℕ, ◌<◌}
 use Rattle.book_design.specs.Values.{node_values}
-use Rattle.book_design.specs.Counts.{IsHigher}
+use Rattle.book_design.specs.Forms.Counts.{IsHigher}
 use Rattle.book_design.proofs.counts.tall_node.Given as goal
 
 abbrev pub invariant-loop-i : goal.invariant-loop-i

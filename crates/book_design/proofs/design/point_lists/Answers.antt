@@ -1,7 +1,7 @@
 use Rattle.std.proofs.Common.{rules, ◌≡◌, ◌++◌, ◌∷◌, [], ℕ, ◌+◌, ◌<◌, ◌∙◌, sym, ap, arith, length, get_or, not, subst, List}
 use Rattle.book_design.specs.Values.{node_values, node_value}
 use Rattle.book_design.specs.Points.{is_movable, node_value_at}
-use Rattle.book_design.specs.Assembly.{ArePoints}
+use Rattle.book_design.specs.Forms.Assembly.{ArePoints}
 use Rattle.book_design.proofs.AssemblyPoints.{points_fixed, points_movable, no_record, value_of_node, node_count}
 use Rattle.book_design.proofs.design.point_lists.Goals as goal
 use Rattle.book_design.proofs.design.point_lists.Goals.{then-not-node+in_ok-push-2, else-not-node}

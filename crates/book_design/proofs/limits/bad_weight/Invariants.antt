@@ -1,5 +1,5 @@
 use Rattle.std.proofs.Common.{ℕ, ◌<◌}
-use Rattle.book_design.specs.ValueLimits.{HasNoWeight}
+use Rattle.book_design.specs.Forms.ValueLimits.{HasNoWeight}
 use Rattle.book_design.proofs.limits.bad_weight.Given as goal
 
 abbrev pub invariant-loop-n : goal.invariant-loop-n

@@ -1,5 +1,5 @@
 use Rattle.std.proofs.Common.{ℕ, ◌<◌}
-use Rattle.book_design.specs.ValueLimits.{IsWide}
+use Rattle.book_design.specs.Forms.ValueLimits.{IsWide}
 use Rattle.book_design.proofs.limits.wide_strip.Given as goal
 
 abbrev pub invariant-loop-s : goal.invariant-loop-s

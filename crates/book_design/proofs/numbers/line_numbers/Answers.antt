@@ -1,7 +1,7 @@
 use Rattle.std.proofs.Common.{◌≡◌, length, sym, ap, arith, map}
 use Rattle.std.proofs.lemmas.List.{get_or-map, length-map}
 use Rattle.book_files.specs.Entries.{weight_entries, weight_entry}
-use Rattle.book_design.specs.Sources.{entry_name}
+use Rattle.book_design.specs.Forms.Sources.{entry_name}
 use Rattle.book_design.proofs.Looking.{no_numbers, numbers_more, numbers_whole}
 use Rattle.book_design.proofs.numbers.line_numbers.Goals as goal
 

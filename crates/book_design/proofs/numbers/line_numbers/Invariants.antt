@@ -1,6 +1,6 @@
 use Rattle.book_files.specs.Entries.{weight_entries}
-use Rattle.book_design.specs.Numbers.{AreNumbers}
-use Rattle.book_design.specs.Sources.{entry_name}
+use Rattle.book_design.specs.Forms.Numbers.{AreNumbers}
+use Rattle.book_design.specs.Forms.Sources.{entry_name}
 use Rattle.book_design.proofs.numbers.line_numbers.Given as goal
 
 abbrev pub invariant-loop-i : goal.invariant-loop-i

@@ -1,7 +1,7 @@
 use Rattle.std.proofs.Common.{◌≡◌, ◌^◌, pos, arith, refl, w64, to_z, of_z, ◌+ℤ◌, ◌-ℤ◌}
 use Rattle.std.proofs.lemmas.Int.{ints}
 use lib.IntN.{negsuc}
-use Rattle.book_design.specs.Overlap.{band}
+use Rattle.book_design.specs.Forms.Overlap.{band}
 use Rattle.book_design.proofs.overlap.band_of.Goals as goal
 
 pub returns-clause-value : goal.returns-clause-value

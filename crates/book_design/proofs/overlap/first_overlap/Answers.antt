@@ -3,7 +3,7 @@ use Rattle.std.proofs.lemmas.Int.{ints}
 use mir.Syntax.{w128}
 use Rattle.book_design.specs.declared.strips.Strip.{Strip as Kept}
 use Rattle.book_design.specs.Faults.{IsOverlapping, IsFirst}
-use Rattle.book_design.specs.Strips.{strip_values, IsStripInRange}
+use Rattle.book_design.specs.Forms.Strips.{strip_values, IsStripInRange}
 use Rattle.book_design.proofs.OverlapAreas.{le_of, not_le}
 use Rattle.book_design.proofs.OverlapRun.{blank, IsAt, some_at, first_at, seen_more, seen_past, none_at_end, in_range}
 use Rattle.book_design.proofs.overlap.first_overlap.Goals as goal

@@ -3,7 +3,7 @@ use Rattle.std.proofs.lemmas.Int.{ints}
 use mir.Syntax.{w64, w128}
 use Rattle.std.specs.BTreeMap.{get}
 use Rattle.std.specs.Ordering.{is_eq}
-use Rattle.book_design.specs.Overlap.{place_cmp, band}
+use Rattle.book_design.specs.Forms.Overlap.{place_cmp, band}
 use Rattle.book_design.proofs.overlap.keep.Goals as goal
 
 pub returns : goal.returns

@@ -1,7 +1,7 @@
 use Rattle.std.proofs.Common.{◌≡◌, ℤ, to_z, of_z, subst}
 use Rattle.std.proofs.lemmas.Int.{to_z-of_z}
 use mir.Syntax.{w128}
-use Rattle.book_design.specs.Overlap.{HasNoneBefore, IsLastBefore}
+use Rattle.book_design.specs.Forms.Overlap.{HasNoneBefore, IsLastBefore}
 use Rattle.book_design.proofs.OverlapPlaces.{none_in_empty, last_in_range, none_in_range}
 use Rattle.book_design.proofs.overlap.last_before.Goals as goal
 

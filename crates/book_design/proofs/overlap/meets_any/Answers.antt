@@ -1,6 +1,6 @@
 use Rattle.std.proofs.Common.{◌≡◌, ℕ, ◌+◌, ◌-◌, ◌<◌, ◌≤◌, w64, to_z, of_z, arith, below_more}
 use Rattle.std.proofs.lemmas.Int.{ints}
-use Rattle.book_design.specs.Overlap.{band, MeetsNoneOf}
+use Rattle.book_design.specs.Forms.Overlap.{band, MeetsNoneOf}
 use Rattle.book_design.proofs.OverlapBands.{none_at_all}
 use Rattle.book_design.proofs.OverlapWalk.{at_height}
 use Rattle.book_design.proofs.overlap.meets_any.Goals as goal

@@ -1,5 +1,5 @@
 use Rattle.std.proofs.Common.{ℕ, ◌-◌, ◌<◌, ◌≤◌}
-use Rattle.book_design.specs.Overlap.{MeetsNoneOf}
+use Rattle.book_design.specs.Forms.Overlap.{MeetsNoneOf}
 use Rattle.book_design.proofs.overlap.meets_any.Given as goal
 
 abbrev pub invariant-loop-near : goal.invariant-loop-near

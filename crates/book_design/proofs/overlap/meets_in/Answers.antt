@@ -2,7 +2,7 @@ use Rattle.std.proofs.Common.{◌≡◌, ◌^◌, ◌<◌, ℤ, ◌+ℤ◌, pos,
 use Rattle.std.proofs.lemmas.Int.{ints}
 use mir.Syntax.{w128}
 use Rattle.std.specs.Prelude.{unsigned_abs}
-use Rattle.book_design.specs.Strips.{IsStripInRange}
+use Rattle.book_design.specs.Forms.Strips.{IsStripInRange}
 use Rattle.book_design.proofs.OverlapAreas.{le_of}
 use Rattle.book_design.proofs.OverlapWalk.{MeetsNoneFrom, edges, from_right, step, all_walked, stop, closer, at_height}
 use Rattle.book_design.proofs.overlap.meets_in.Goals as goal

@@ -1,7 +1,7 @@
 use Rattle.std.proofs.Common.{◌^◌, ℤ, pos, neg_ℤ, ◌+ℤ◌, ◌≤ℤ◌}
 use Rattle.std.specs.Prelude.{unsigned_abs}
 use Rattle.book_design.specs.declared.strips.Strip.{Strip as Kept}
-use Rattle.book_design.specs.Overlap.{Has, Meet}
+use Rattle.book_design.specs.Forms.Overlap.{Has, Meet}
 use Rattle.book_design.proofs.overlap.meets_in.Given as goal
 
 -- none of those that begin at the end or after it shares area with the subrow

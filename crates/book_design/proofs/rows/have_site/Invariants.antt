@@ -1,5 +1,5 @@
 use Rattle.std.proofs.Common.{◌≡◌, ℕ, ◌<◌}
-use Rattle.book_design.specs.Parts.{kept_at}
+use Rattle.book_design.specs.Forms.Parts.{kept_at}
 use Rattle.book_design.proofs.rows.have_site.Given as goal
 
 abbrev pub invariant-loop-strip : goal.invariant-loop-strip

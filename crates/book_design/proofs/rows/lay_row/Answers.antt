@@ -3,7 +3,7 @@ use Rattle.book_files.specs.Entries.{SubrowEntry, subrow_entry}
 use Rattle.book_files.specs.Blocks.{row_entry}
 use Rattle.book_files.specs.Ranges.{IsSubrowInRange}
 use Rattle.book_design.specs.Records.{strip_of}
-use Rattle.book_design.specs.Parts.{outline}
+use Rattle.book_design.specs.Forms.Parts.{outline}
 use Rattle.book_design.proofs.RowsLaid.{appended_more, appended_whole, append_none, each_of}
 use Rattle.std.proofs.Common.{sym}
 use Rattle.book_design.proofs.rows.lay_row.Goals as goal

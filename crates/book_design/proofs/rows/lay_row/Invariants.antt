@@ -2,7 +2,7 @@ use Rattle.std.proofs.Common.{◌≡◌, ◌++◌, map, take}
 use Rattle.book_files.specs.Entries.{subrow_entry}
 use Rattle.book_files.specs.Blocks.{row_entry}
 use Rattle.book_design.specs.Records.{strip_of}
-use Rattle.book_design.specs.Parts.{outline}
+use Rattle.book_design.specs.Forms.Parts.{outline}
 use Rattle.book_design.proofs.rows.lay_row.Given as goal
 
 abbrev pub invariant-loop-subrow : goal.invariant-loop-subrow

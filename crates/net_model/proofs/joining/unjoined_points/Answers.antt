@@ -24,7 +24,7 @@ loop-node-preserved c =
       | then-not-node+in_ok-push w ↦
           let movable = movable_is nodes design.nodes _ _ _ c.nodes-node-items.ensures.nodes c.loop-node-test.true w.if-not-node.true in
           let len : w.len.result ≡ length c.loop-node.points.items = w.len.ensures ∙ c.loop-node.points.ok.0 in
-          let area = w.sites_of-area.ensures c.loop-node.node-index (next_node design _ c.loop-node.points.items _ inside movable len c.loop-node.invariant) in
+          let area = w.sites_of-area.ensures.sites c.loop-node.node-index (next_node design _ c.loop-node.points.items _ inside movable len c.loop-node.invariant) in
           rw w.points-is (fresh_pushed design _ c.loop-node.points.items _ _ inside movable w.in_ok-push.ensures.items
           (record { near = w.new.ensures.items; pins = w.new-then-not-node.ensures.items; area = area }) c.loop-node.invariant)
       | else-not-node w ↦

@@ -15,8 +15,8 @@ sites_across-requires-clause-width c =
     let P : ℤ → Type 0 = λ z. pos 0 ≤ℤ z in
     subst P (sym (kept_whole c.index.result.now.width good.width)) good.width_sign
 
-pub returns : goal.returns
-returns c i h =
+pub returns-clause-sites : goal.returns-clause-sites
+returns-clause-sites c i h =
     let items = c.self.inside.nodes.items in
     let nodes : node_values items ≡ c.args.self.now.nodes = ap (λ d. d.nodes) c.self.view_is in
     let there : c.args.point < count_by is_movable (node_values items) = let P : List NodeValue → Type 0 = λ ns. c.args.point < count_by is_movable ns in subst P (sym nodes) c.requires in

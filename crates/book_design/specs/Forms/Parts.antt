@@ -2,6 +2,7 @@
 use Rattle.std.specs.Prelude.{◌≡◌, ◌≢◌, ◌⊎◌, ℕ, ◌/◌, ◌%◌, ◌<◌, ◌==◌, nat_le, List, [], length, map, Option, Some, None, unwrap_or, if◌then◌else◌, ℤ, pos, negsuc, slice_index_or}
 use Rattle.book_files.specs.declared.records.FileKind.TheVariants.{Nets}
 use Rattle.book_files.specs.Entries.{NetEntry, PinEntry, RowEntry}
+use Rattle.book_design.specs.declared.rules.TheConstants.{MOST_NET_WEIGHT}
 use Rattle.book_design.specs.declared.fault.JoinError.{JoinError}
 use Rattle.book_design.specs.declared.fault.JoinError.TheVariants.{Fault, Memory}
 use Rattle.book_design.specs.declared.fault.DesignFault.TheVariants.{UnknownName}
@@ -13,25 +14,25 @@ use Rattle.book_design.specs.Records.{Records, Strip, strip_of, row_at, strips}
 use Rattle.book_design.specs.Joined.{joined_pin, weight_of}
 use Rattle.book_design.specs.Values.{NetValue}
 
--- the weight of so many millionths where it is a whole number from 0 to 65,535
+-- the weight of so many millionths where it is a whole number from 0 to the greatest of a net
 abbrev pub whole_weight : ℤ → Option ℕ
-whole_weight (pos n) = if n % 1000000 == 0 then (if nat_le (n / 1000000) 65535 then Some (n / 1000000) else None) else None
+whole_weight (pos n) = if n % 1000000 == 0 then (if nat_le (n / 1000000) MOST_NET_WEIGHT then Some (n / 1000000) else None) else None
 whole_weight (negsuc n) = None
 
 -- the weights of the nets
 abbrev pub whole_weights : Records → List (Option ℕ)
-whole_weights files = map (λ net. whole_weight (weight_of files net)) files.nets
+whole_weights records = map (λ net. whole_weight (weight_of records net)) records.nets
 
 -- a net with its pins; in place of a weight that is no whole number stands 0
 abbrev pub pinned_net : Records → NetEntry → NetValue
-pinned_net files net = record { weight = unwrap_or (whole_weight (weight_of files net)) 0; pins = map (joined_pin files) net.pins }
+pinned_net records net = record { weight = unwrap_or (whole_weight (weight_of records net)) 0; pins = map (joined_pin records) net.pins }
 
 -- a subrow as the code keeps it, without its upper edge
 abbrev pub outline : Strip → Kept
 outline s = record { row = s.row; left = s.left; right = s.right; lower = s.lower; sites = s.sites }
 
 abbrev pub outlines : Records → List Kept
-outlines files = map outline (strips files)
+outlines records = map outline (strips records)
 
 -- past the end there is a subrow without sites
 abbrev pub kept_at : List Kept → ℕ → Kept
@@ -41,9 +42,9 @@ abbrev pub joined_kept : Kept → Subrow
 joined_kept s = record { row = s.row; x = s.left; y = s.lower; sites = s.sites }
 
 -- the height and the pitch of row 0
-pub record IsShape (files : Records) (shape : RowShape) : Type 0 where
-  pub height : shape.height ≡ (row_at files 0).height
-  pub pitch : shape.pitch ≡ (row_at files 0).pitch
+pub record IsShape (records : Records) (shape : RowShape) : Type 0 where
+  pub height : shape.height ≡ (row_at records 0).height
+  pub pitch : shape.pitch ≡ (row_at records 0).pitch
 
 -- past the end of a net's pins stands one without a name
 abbrev pub pin_in : List PinEntry → ℕ → PinEntry
@@ -51,26 +52,13 @@ pin_in pins j = slice_index_or pins j (record { line = 0; node = []; dx = pos 0;
 
 -- each of these pins has the name of a node
 abbrev pub AreKnown : Records → List PinEntry → Type 0
-AreKnown files pins = (j : ℕ) → j < length pins → IsUnknown files (pin_in pins j).node → ⊥
+AreKnown records pins = (j : ℕ) → j < length pins → IsUnknown records (pin_in pins j).node → ⊥
 
 -- a pin whose name no node has
 abbrev pub IsUnknownIn : Records → List PinEntry → ℕ → Type 0
-IsUnknownIn files pins j = (j < length pins) × IsUnknown files (pin_in pins j).node
+IsUnknownIn records pins j = (j < length pins) × IsUnknown records (pin_in pins j).node
 
--- the join of a net's pins ends there: the fault tells the first that no node has
+-- the join of a net's pins ends there: the fault names the first whose node is unknown
 abbrev pub StopsInPins : Records → List PinEntry → JoinError → Type 0
-StopsInPins files pins (Fault fault) = (j : ℕ) × IsFirst (IsUnknownIn files pins) j × (fault ≡ UnknownName Nets (pin_in pins j).line)
-StopsInPins files pins Memory = Unit {0}
-
--- the subrows of a row, whose number is r
-abbrev pub row_outlines : ℕ → RowEntry → List Kept
-row_outlines r row = map outline (map (strip_of r row) row.subrows)
-
--- past the end there is a row without height
-abbrev pub row_in : List RowEntry → ℕ → RowEntry
-row_in rows r = slice_index_or rows r (record { y = pos 0; height = pos 0; pitch = pos 0; subrows = [] })
-
--- a row of another height or pitch
-pub record HasOtherShape (rows : List RowEntry) (shape : RowShape) (r : ℕ) : Type 0 where
-  pub there : r < length rows
-  pub other : ((row_in rows r).height ≢ shape.height) ⊎ ((row_in rows r).pitch ≢ shape.pitch)
+StopsInPins records pins (Fault fault) = (j : ℕ) × IsFirst (IsUnknownIn records pins) j × (fault ≡ UnknownName Nets (pin_in pins j).line)
+StopsInPins records pins Memory = Unit {0}

@@ -1,6 +1,7 @@
 -- How a design is kept: its points by number, and its core from the subrows.
 use Rattle.std.specs.Prelude.{◌≡◌, ℕ, ◌<◌, List, length, slice_index_or, Option, Some, None, ℤ, pos, neg_ℤ, ◌^◌, ◌≤◌, ◌≤ℤ◌, ◌+ℤ◌}
 use Rattle.std.specs.Int.{int_min, int_max}
+use Rattle.book_design.specs.declared.rules.TheConstants.{MOST_SITES, ROWS_END}
 use Rattle.book_design.specs.declared.strips.Strip.{Strip as Kept}
 use Rattle.book_design.specs.declared.parts.Core.{Core}
 use Rattle.book_design.specs.declared.parts.Node.{Node}
@@ -10,7 +11,7 @@ use Rattle.book_design.specs.declared.rows.RowShape.{RowShape}
 use Rattle.book_design.specs.Values.{NodeValue, DesignValue, node_values}
 use Rattle.book_design.specs.Nets.{net_values}
 use Rattle.book_design.specs.Points.{movable_before, IsNodeOf}
-use Rattle.book_design.specs.Parts.{kept_at}
+use Rattle.book_design.specs.Forms.Parts.{kept_at}
 
 -- the points among the first so many nodes: the node of each point, and how many points stand before each node
 pub record ArePoints (nodes : List NodeValue) (i : ℕ) (movable numbers : List ℕ) : Type 0 where
@@ -24,35 +25,30 @@ abbrev pub HasSiteBefore : List Kept → ℕ → ℕ → Type 0
 HasSiteBefore kept i s = (s < i) × (0 < (kept_at kept s).sites)
 
 -- the least, and the greatest, end of the first so many subrows that have a site
-pub record IsLeast (end : Kept → ℤ) (kept : List Kept) (i : ℕ) (value : ℤ) : Type 0 where
+pub record IsLowestEnd (end : Kept → ℤ) (kept : List Kept) (i : ℕ) (value : ℤ) : Type 0 where
   pub least : (s : ℕ) → HasSiteBefore kept i s → value ≤ℤ end (kept_at kept s)
   pub there : (s : ℕ) × HasSiteBefore kept i s × (end (kept_at kept s) ≡ value)
 
-pub record IsGreatest (end : Kept → ℤ) (kept : List Kept) (i : ℕ) (value : ℤ) : Type 0 where
+pub record IsHighestEnd (end : Kept → ℤ) (kept : List Kept) (i : ℕ) (value : ℤ) : Type 0 where
   pub greatest : (s : ℕ) → HasSiteBefore kept i s → end (kept_at kept s) ≤ℤ value
   pub there : (s : ℕ) × HasSiteBefore kept i s × (end (kept_at kept s) ≡ value)
 
 -- the smallest rectangle around those of the first so many subrows that have a site
 pub record IsCoreOf (height : ℤ) (kept : List Kept) (i : ℕ) (core : Core) : Type 0 where
-  pub left : IsLeast (λ s. s.left) kept i core.xlo
-  pub right : IsGreatest (λ s. s.right) kept i core.xhi
-  pub lower : IsLeast (λ s. s.lower) kept i core.ylo
-  pub upper : IsGreatest (λ s. s.lower +ℤ height) kept i core.yhi
+  pub left : IsLowestEnd (λ s. s.left) kept i core.xlo
+  pub right : IsHighestEnd (λ s. s.right) kept i core.xhi
+  pub lower : IsLowestEnd (λ s. s.lower) kept i core.ylo
+  pub upper : IsHighestEnd (λ s. s.lower +ℤ height) kept i core.yhi
 
--- that rectangle, or none where none of them has a site
-abbrev pub IsCoreUpTo : ℤ → List Kept → ℕ → Option Core → Type 0
-IsCoreUpTo height kept i None = (s : ℕ) → HasSiteBefore kept i s → ⊥
-IsCoreUpTo height kept i (Some core) = IsCoreOf height kept i core
-
--- the ends of a subrow lie within 1,000,000 units, and it has no more than 16,777,216 sites
+-- a subrow's ends lie where they may, and it doesn't have too many sites
 pub record IsNarrow (height : ℤ) (s : Kept) : Type 0 where
   pub left : neg_ℤ (pos (10 ^ 12)) ≤ℤ s.left
   pub wide : s.left ≤ℤ s.right
-  pub right : s.right ≤ℤ pos (10 ^ 12)
+  pub right : s.right ≤ℤ ROWS_END
   pub lower : neg_ℤ (pos (10 ^ 12)) ≤ℤ s.lower
   pub high : s.lower ≤ℤ (s.lower +ℤ height)
-  pub upper : (s.lower +ℤ height) ≤ℤ pos (10 ^ 12)
-  pub sites : s.sites ≤ 2 ^ 24
+  pub upper : (s.lower +ℤ height) ≤ℤ ROWS_END
+  pub sites : s.sites ≤ MOST_SITES
 
 abbrev pub AreNarrow : ℤ → List Kept → Type 0
 AreNarrow height kept = (s : ℕ) → s < length kept → IsNarrow height (kept_at kept s)

@@ -5,7 +5,7 @@ use Rattle.std.specs.Ordering.{nat_cmp, int_cmp, ordering_then, is_eq}
 use Rattle.std.specs.BTreeMap.{BTreeMap, get}
 use Rattle.book_design.specs.declared.strips.Strip.{Strip as Kept}
 use Rattle.book_design.specs.Faults.{ShareArea}
-use Rattle.book_design.specs.Strips.{strip_value, IsStripInRange}
+use Rattle.book_design.specs.Forms.Strips.{strip_value, IsStripInRange}
 
 -- the band of the plane in which a lower edge lies: bands are as high as a row, and the first begins at -10^12
 unfoldable pub band : ℤ → ℤ → ℕ

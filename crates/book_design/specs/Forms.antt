@@ -1,0 +1,10 @@
+pub mod Strips
+pub mod Overlap
+pub mod Steps
+pub mod Numbers
+pub mod Sources
+pub mod Parts
+pub mod RowParts
+pub mod Assembly
+pub mod Counts
+pub mod ValueLimits
