@@ -38,8 +38,8 @@ pub record IsSettled (web : List Joint) (found : List (Option Entry)) : Type 0 w
 abbrev pub IsWaiting : List ℕ → ℕ → ℕ → Type 0
 IsWaiting queue next q = (j : ℕ) × (next ≤ j) × (j < length queue) × (slice_index queue j ≡ q)
 
--- Each anchored point before `limit` is reached. The points of the queue are reached, and whatever tells a reached point as a
--- neighbour is reached, or that point still waits.
+-- Each anchored point before `limit` is reached. The points of the queue are reached, and each in-neighbour of a reached
+-- point is reached, or that point still waits.
 pub record IsSearch (web : List Joint) (limit : ℕ) (found : List (Option Entry)) (queue : List ℕ) (next : ℕ) : Type 0 where
   pub sound : IsSound web found
   pub anchored : (p : ℕ) → p < limit → IsAnchored web p → IsReached found p
