@@ -10,7 +10,7 @@ pub struct Reach {
 }
 
 /// What is known of a point: the neighbour that its chain goes on to, and its distance.
-#[derive(Clone, Copy, Debug)]
+#[derive(Clone, Copy)]
 pub(crate) struct Entry {
     pub(crate) toward: Option<u32>,
     pub(crate) distance: u32,

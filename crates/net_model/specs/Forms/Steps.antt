@@ -1,10 +1,11 @@
 -- The steps that make a network: the cliques of the nets, what they give each point, and the sums of it.
-use Rattle.std.specs.Prelude.{◌≡◌, ℕ, ◌^◌, ◌<◌, ◌≤◌, Bool, false, not, ◌||◌, ◌==◌, List, [], length, sum_by, slice_index_or, Option, Some, None, if◌then◌else◌, All, Result, Ok, Err}
+use Rattle.std.specs.Prelude.{◌≡◌, ℕ, ◌^◌, ◌<◌, ◌≤◌, Bool, false, ◌==◌, List, [], length, sum_by, slice_index_or, Option, Some, None, if◌then◌else◌, All, Result, Ok, Err}
 use Rattle.std.specs.List.{filter_map, flat_map, range_with_len}
 use Rattle.book_design.specs.declared.parts.Pin.{Pin}
 use Rattle.book_design.specs.Values.{NetValue, DesignValue}
-use Rattle.book_design.specs.Points.{is_movable, movable_before, site_count}
+use Rattle.book_design.specs.Points.{site_count}
 use Rattle.book_design.specs.Faults.{IsFirst}
+use Rattle.net_model.specs.declared.limits.TheConstants.{MOST_WEIGHT}
 use Rattle.net_model.specs.declared.parts.Near.{Near}
 use Rattle.net_model.specs.declared.parts.FixedPin.{FixedPin}
 use Rattle.net_model.specs.Values.{PointValue, point_at}
@@ -12,12 +13,17 @@ use Rattle.net_model.specs.declared.fault.NetError.{NetError}
 use Rattle.net_model.specs.declared.fault.NetError.TheVariants.{Fault, Memory}
 use Rattle.net_model.specs.declared.fault.NetFault.TheVariants.{NetTooWide}
 use Rattle.net_model.specs.Clique.{first_pins, share, has_node}
+use Rattle.net_model.specs.Forms.Joining.{is_at, paired_near}
 use Rattle.net_model.specs.Network.{node_at, node_of, point_nodes, pins_in, total_weight, terms, IsTooWide}
 
 -- no node is marked as seen, of so many
 pub record IsUnmarked (nodes : ℕ) (seen : List Bool) : Type 0 where
   pub all : length seen ≡ nodes
   pub none : (i : ℕ) → i < nodes → slice_index_or seen i false ≡ false
+
+-- exactly the nodes of the pins are marked
+abbrev pub AreMarked : List Pin → List Bool → Type 0
+AreMarked pins seen = (i : ℕ) → i < length seen → slice_index_or seen i false ≡ is_at pins i
 
 -- each pin is at one of so many nodes
 abbrev pub AreAtNodes : ℕ → List Pin → Type 0
@@ -30,14 +36,9 @@ Counts design (Err (Fault (NetTooWide n))) = IsFirst (IsTooWide design) n
 Counts design (Err (Fault other)) = ⊥
 Counts design (Err Memory) = Unit {0}
 
--- the node of a pin as a neighbour of another node, where it is movable
-abbrev pub as_other : DesignValue → NetValue → ℕ → Pin → Option Near
-as_other design net i pin = if (pin.node == i) || not (is_movable (node_at design pin.node)) then None
-    else Some (record { point = movable_before design.nodes pin.node; weight = share net })
-
 -- the neighbours that a net gives a node; none of weight 0
 abbrev pub nears_in : DesignValue → ℕ → NetValue → List Near
-nears_in design i net = if share net == 0 then [] else if has_node net i then filter_map (as_other design net i) (first_pins net.pins) else []
+nears_in design i net = if share net == 0 then [] else if has_node net i then filter_map (paired_near design (share net) i) (first_pins net.pins) else []
 
 -- what some of the nets give a node
 abbrev pub nears_by : DesignValue → List NetValue → ℕ → List Near
@@ -81,4 +82,4 @@ summed points point = record { near = filter_map (as_sum point.near) (range_with
 
 -- one of these points is heavy
 abbrev pub IsHeavyPoint : List PointValue → ℕ → Type 0
-IsHeavyPoint points p = (p < length points) × (2 ^ 40 < total_weight (point_at points p))
+IsHeavyPoint points p = (p < length points) × (MOST_WEIGHT < total_weight (point_at points p))

@@ -1,5 +1,5 @@
 -- What one net gives the points: pairs of one weight, from its distinct nodes.
-use Rattle.std.specs.Prelude.{◌≡◌, ℕ, ◌<◌, Bool, false, not, ◌||◌, ◌==◌, List, ◌++◌, length, take, slice_index_or, Option, Some, None, if◌then◌else◌, pos, ◌+ℤ◌}
+use Rattle.std.specs.Prelude.{◌≡◌, ℕ, ◌<◌, Bool, false, not, ◌||◌, ◌==◌, List, [], ◌∷◌, ◌++◌, length, Option, Some, None, if◌then◌else◌, ◌+ℤ◌}
 use Rattle.std.specs.List.{filter_map, list_any}
 use Rattle.book_design.specs.declared.parts.Pin.{Pin}
 use Rattle.book_design.specs.Values.{NodeValue, DesignValue}
@@ -14,12 +14,10 @@ use Rattle.net_model.specs.Network.{node_at, node_of, point_nodes}
 abbrev pub is_at : List Pin → ℕ → Bool
 is_at pins i = list_any (λ pin. pin.node == i) pins
 
-abbrev pub pin_at : List Pin → ℕ → Pin
-pin_at pins k = slice_index_or pins k (record { node = 0; dx = pos 0; dy = pos 0 })
-
--- no pin is at the node of an earlier one
+-- no two pins are at one node
 abbrev pub AreDistinct : List Pin → Type 0
-AreDistinct pins = (k : ℕ) → k < length pins → is_at (take k pins) (pin_at pins k).node ≡ false
+AreDistinct [] = Unit {0}
+AreDistinct (pin ∷ pins) = (is_at pins pin.node ≡ false) × AreDistinct pins
 
 -- a pin as a fixed pin of this weight: it stands at the node's centre plus the pin's offset
 abbrev pub fixed_pin : ℕ → NodeValue → Pin → FixedPin
