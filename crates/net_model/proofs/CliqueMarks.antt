@@ -8,8 +8,9 @@ use Rattle.std.proofs.lemmas.List.Folds.{list_any_more}
 use Rattle.std.proofs.lemmas.List.{take_more, drop_more, length-set, get_or-set_same, get_or-set_other}
 use Rattle.book_design.specs.declared.parts.Pin.{Pin}
 use Rattle.net_model.specs.Clique.{first_pins}
-use Rattle.net_model.specs.Marks.{AreMarked}
-use Rattle.net_model.proofs.CliqueNodes.{is_joined, without}
+use Rattle.net_model.specs.Forms.Steps.{AreMarked}
+use Rattle.net_model.specs.Forms.Joining.{is_at}
+use Rattle.net_model.proofs.CliqueNodes.{without}
 
 -- One more pin is a first pin where none before it is at its node.
 pushed_by_test : (x p : Pin) (b joined : Bool) → (x.node == p.node) ≡ b → without x.node (cond joined [] (p ∷ [])) ≡ cond (b || joined) [] (p ∷ [])
@@ -22,33 +23,33 @@ pushed_by_test x p b false e =
       turned true = refl
       turned false = refl
 
-pub first_push : (xs : List Pin) (p : Pin) → first_pins (xs ++ p ∷ []) ≡ first_pins xs ++ cond (is_joined xs p.node) [] (p ∷ [])
+pub first_push : (xs : List Pin) (p : Pin) → first_pins (xs ++ p ∷ []) ≡ first_pins xs ++ cond (is_at xs p.node) [] (p ∷ [])
 first_push [] p = refl
 first_push (x ∷ xs) p =
     ap (λ ys. x ∷ without x.node ys) (first_push xs p)
-    ∙ ap (λ ys. x ∷ ys) (filter-append (λ (other : Pin). not (other.node == x.node)) (first_pins xs) (cond (is_joined xs p.node) [] (p ∷ [])))
-    ∙ ap (λ ys. x ∷ without x.node (first_pins xs) ++ ys) (pushed_by_test x p (x.node == p.node) (is_joined xs p.node) refl)
+    ∙ ap (λ ys. x ∷ ys) (filter-append (λ (other : Pin). not (other.node == x.node)) (first_pins xs) (cond (is_at xs p.node) [] (p ∷ [])))
+    ∙ ap (λ ys. x ∷ without x.node (first_pins xs) ++ ys) (pushed_by_test x p (x.node == p.node) (is_at xs p.node) refl)
 
-pub first_more : (pins : List Pin) (i : ℕ) (d : Pin) (b : Bool) → i < length pins → is_joined (take i pins) (get_or pins i d).node ≡ b
+pub first_more : (pins : List Pin) (i : ℕ) (d : Pin) (b : Bool) → i < length pins → is_at (take i pins) (get_or pins i d).node ≡ b
     → first_pins (take (i + 1) pins) ≡ first_pins (take i pins) ++ cond b [] (get_or pins i d ∷ [])
 first_more pins i d b inside e =
     ap first_pins (take_more pins i d inside) ∙ first_push (take i pins) (get_or pins i d)
     ∙ ap (λ t. first_pins (take i pins) ++ cond t [] (get_or pins i d ∷ [])) e
 
 joined_more : (pins : List Pin) (i : ℕ) (d : Pin) (j : ℕ) → i < length pins
-    → is_joined (take (i + 1) pins) j ≡ (is_joined (take i pins) j || ((get_or pins i d).node == j))
+    → is_at (take (i + 1) pins) j ≡ (is_at (take i pins) j || ((get_or pins i d).node == j))
 joined_more pins i d j inside = list_any_more (λ (pin : Pin). pin.node == j) pins i d inside
 
 -- a pin at a node that is marked changes nothing
 pub marked_same : (pins : List Pin) (seen : List Bool) (i : ℕ) (d : Pin) → i < length pins → AreMarked (take i pins) seen
     → get_or seen (get_or pins i d).node false ≡ true → AreMarked (take (i + 1) pins) seen
 marked_same pins seen i d inside marked e j below = by_test (cases_eq (get_or pins i d).node j) where
-  by_test : ((get_or pins i d).node ≡ j) ⊎ ((get_or pins i d).node ≡ j → ⊥) → get_or seen j false ≡ is_joined (take (i + 1) pins) j
+  by_test : ((get_or pins i d).node ≡ j) ⊎ ((get_or pins i d).node ≡ j → ⊥) → get_or seen j false ≡ is_at (take (i + 1) pins) j
   by_test (inl same) =
       let here : get_or seen j false ≡ true = ap (λ k. get_or seen k false) (sym same) ∙ e in
       here ∙ sym (joined_more pins i d j inside ∙ or_left _ _ (sym (marked j below) ∙ here))
   by_test (inr other) =
-      marked j below ∙ sym (joined_more pins i d j inside ∙ ap (λ b. is_joined (take i pins) j || b) (ne_eqb _ _ other) ∙ or-false (is_joined (take i pins) j))
+      marked j below ∙ sym (joined_more pins i d j inside ∙ ap (λ b. is_at (take i pins) j || b) (ne_eqb _ _ other) ∙ or-false (is_at (take i pins) j))
 
 -- a pin at another node marks it
 pub marked_more : (pins : List Pin) (seen : List Bool) (i : ℕ) (d : Pin) → i < length pins → AreMarked (take i pins) seen
@@ -58,32 +59,17 @@ marked_more pins seen i d inside marked j below = by_test (cases_eq j (get_or pi
   within = omega (arith, length-set seen (get_or pins i d).node true, below)
 
   by_test : (j ≡ (get_or pins i d).node) ⊎ (j ≡ (get_or pins i d).node → ⊥)
-      → get_or (set seen (get_or pins i d).node true) j false ≡ is_joined (take (i + 1) pins) j
+      → get_or (set seen (get_or pins i d).node true) j false ≡ is_at (take (i + 1) pins) j
   by_test (inl same) =
       ap (λ k. get_or (set seen k true) j false) (sym same) ∙ get_or-set_same seen j true false within
       ∙ sym (joined_more pins i d j inside ∙ or_right _ _ (eq-eqb _ _ (sym same)))
   by_test (inr other) =
       get_or-set_other seen (get_or pins i d).node j true false other ∙ marked j within
-      ∙ sym (joined_more pins i d j inside ∙ ap (λ b. is_joined (take i pins) j || b) (ne_eqb _ _ (λ e. other (sym e))) ∙ or-false (is_joined (take i pins) j))
+      ∙ sym (joined_more pins i d j inside ∙ ap (λ b. is_at (take i pins) j || b) (ne_eqb _ _ (λ e. other (sym e))) ∙ or-false (is_at (take i pins) j))
 
 -- only nodes of the pins are marked
 abbrev pub MarksWithin : List Pin → List Bool → Type 0
-MarksWithin pins seen = (i : ℕ) → i < length seen → get_or seen i false ≡ true → is_joined pins i ≡ true
-
-pub unmarked_more : (pins : List Pin) (seen : List Bool) (i : ℕ) (d : Pin) → i < length pins → MarksWithin (drop i pins) seen
-    → MarksWithin (drop (i + 1) pins) (set seen (get_or pins i d).node false)
-unmarked_more pins seen i d inside within j below marked = by_test (cases_eq j (get_or pins i d).node) where
-  there : j < length seen
-  there = omega (arith, length-set seen (get_or pins i d).node false, below)
-
-  by_test : (j ≡ (get_or pins i d).node) ⊎ (j ≡ (get_or pins i d).node → ⊥) → is_joined (drop (i + 1) pins) j ≡ true
-  by_test (inl same) =
-      let free : get_or (set seen (get_or pins i d).node false) j false ≡ false =
-      ap (λ k. get_or (set seen k false) j false) (sym same) ∙ get_or-set_same seen j false false there in
-      absurd (both_ways _ free marked)
-  by_test (inr other) =
-      let held : is_joined (drop i pins) j ≡ true = within j there (sym (get_or-set_other seen (get_or pins i d).node j false false other) ∙ marked) in
-      sym (ap (λ b. b || is_joined (drop (i + 1) pins) j) (ne_eqb _ _ (λ e. other (sym e)))) ∙ sym (ap (λ xs. is_joined xs j) (drop_more pins i d inside)) ∙ held
+MarksWithin pins seen = (i : ℕ) → i < length seen → get_or seen i false ≡ true → is_at pins i ≡ true
 
 -- one more pin: a new first pin where its node isn't marked
 pub first_marked : (pins first : List Pin) (seen : List Bool) (i : ℕ) (d : Pin) (b : Bool) → i < length pins → (get_or pins i d).node < length seen

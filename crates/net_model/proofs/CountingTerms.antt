@@ -11,9 +11,10 @@ use Rattle.book_design.specs.Values.{NetValue, DesignValue}
 use Rattle.book_design.specs.Nets.{net_value, net_values}
 use Rattle.book_design.specs.Points.{is_movable}
 use Rattle.book_design.specs.WellFormed.{IsGoodPin, IsGoodNet, IsDesign}
+use Rattle.net_model.specs.declared.limits.TheConstants.{MOST_NET_NODES}
 use Rattle.net_model.specs.Clique.{first_pins, degree}
 use Rattle.net_model.specs.Network.{node_at, net_at, pairs, terms_of, IsTooWide}
-use Rattle.net_model.specs.Steps.{AreAtNodes}
+use Rattle.net_model.specs.Forms.Steps.{AreAtNodes}
 
 -- what stands past the last net
 abbrev pub no_net : NetValue
@@ -58,11 +59,11 @@ good_net design nets n d net valid e inside read =
     subst P (net_here design nets n d net e inside read) (All-from_recursion P design.nets valid.nets n no_net (net_inside design nets n e inside))
 
 -- one more net that isn't too wide
-pub narrow_more : (design : DesignValue) (n : ℕ) (net : NetValue) → net_at design n ≡ net → length (first_pins net.pins) ≤ 512
+pub narrow_more : (design : DesignValue) (n : ℕ) (net : NetValue) → net_at design n ≡ net → length (first_pins net.pins) ≤ MOST_NET_NODES
     → ((m : ℕ) → m < n → IsTooWide design m → ⊥) → (m : ℕ) → m < n + 1 → IsTooWide design m → ⊥
 narrow_more design n net e few before = below_more (λ m. IsTooWide design m → ⊥) n before here where
   here : IsTooWide design n → ⊥
-  here wide = let P : NetValue → Type 0 = λ v. 512 < degree v in let more : 512 < length (first_pins net.pins) = subst P e wide.1 in absurd (omega arith)
+  here wide = let P : NetValue → Type 0 = λ v. MOST_NET_NODES < degree v in let more : MOST_NET_NODES < length (first_pins net.pins) = subst P e wide.1 in absurd (omega arith)
 
 pub terms_more : (design : DesignValue) (n : ℕ) (net : NetValue) (total more : ℕ) → net_at design n ≡ net → n < length design.nets
     → total ≡ sum_by (terms_of design) (take n design.nets) → more ≡ terms_of design net

@@ -11,7 +11,7 @@ use Rattle.book_design.specs.Points.{is_movable, node_value_at, movable_before, 
 use Rattle.net_model.specs.declared.point.NetPoint.{NetPoint}
 use Rattle.net_model.specs.Values.{PointValue, point_at, point_entry, point_values}
 use Rattle.net_model.specs.Network.{node_at, node_of, point_nodes}
-use Rattle.net_model.specs.Steps.{IsJoined, AreJoined}
+use Rattle.net_model.specs.Forms.Steps.{IsJoined, AreJoined}
 use Rattle.net_model.proofs.Movable.{no_node, stands_at_point, count_movable}
 use Rattle.net_model.proofs.JoiningPins.{node_is}
 use Rattle.net_model.proofs.JoiningNets.{no_point, own_point}

@@ -11,7 +11,8 @@ use Rattle.book_design.specs.Points.{is_movable, movable_before}
 use Rattle.net_model.specs.declared.point.NetPoint.{NetPoint}
 use Rattle.net_model.specs.Values.{PointValue, point_at, point_entry, point_values}
 use Rattle.net_model.specs.Network.{node_at, node_of, point_nodes}
-use Rattle.net_model.specs.Joining.{is_at, pin_at, AreDistinct, paired_point, ArePaired}
+use Rattle.net_model.specs.Forms.Joining.{is_at, AreDistinct, paired_point, ArePaired}
+use Rattle.net_model.proofs.CliqueNodes.{pin_at, before_none}
 use Rattle.net_model.proofs.Movable.{IsMovableNode, StandsAtPoint, each_movable, stands_at_point}
 
 -- what stands past the end
@@ -120,7 +121,7 @@ paired_movable design weight pins k q start points point less there counted has 
       → point_at (set points q point) p ≡ by_seen design weight pins (node_of design p) (point_at start p) (is_at (take (k + 1) pins) (node_of design p))
   by_place p below (inl same) =
       let P : ℕ → Type 0 = λ j. point_at (set points q point) j ≡ by_seen design weight pins (node_of design j) (point_at start j) (is_at (take (k + 1) pins) (node_of design j)) in
-      subst P (sym same) (here_paired design weight pins k q start points point less (omega (arith, before.all, counted, within)) own (distinct k less) is (before.each q within))
+      subst P (sym same) (here_paired design weight pins k q start points point less (omega (arith, before.all, counted, within)) own (before_none pins k (pin_at [] 0) i distinct less refl) is (before.each q within))
   by_place p below (inr other) = other_point design weight pins k start (set points q point) p less
       (λ e. other (sym (has.number ∙ ap (movable_before design.nodes) e ∙ (own_node design p below).number)))
       (get_or-set_other points q p point no_point other ∙ before.each p below)

@@ -13,7 +13,7 @@ use Rattle.net_model.specs.declared.parts.Near.{Near}
 use Rattle.net_model.specs.declared.parts.FixedPin.{FixedPin}
 use Rattle.net_model.specs.Values.{PointValue}
 use Rattle.net_model.specs.Network.{node_at}
-use Rattle.net_model.specs.Joining.{fixed_pin, paired_near, paired_pin, paired_point}
+use Rattle.net_model.specs.Forms.Joining.{fixed_pin, paired_near, paired_pin, paired_point}
 use Rattle.net_model.proofs.Movable.{no_node}
 
 -- the node at a place, as it lies in memory

@@ -10,15 +10,16 @@ use Rattle.book_design.specs.declared.parts.Net.{Net}
 use Rattle.book_design.specs.Nets.{net_value, net_values}
 use Rattle.book_design.specs.Values.{NetValue, DesignValue}
 use Rattle.book_design.specs.WellFormed.{IsDesign, IsGoodPin, IsGoodNet}
+use Rattle.net_model.specs.declared.limits.TheConstants.{NET_WEIGHT}
 use Rattle.net_model.specs.declared.parts.Near.{Near}
 use Rattle.net_model.specs.declared.parts.FixedPin.{FixedPin}
 use Rattle.net_model.specs.declared.point.NetPoint.{NetPoint}
 use Rattle.net_model.specs.Values.{PointValue, point_at, point_entry, point_values}
 use Rattle.net_model.specs.Clique.{first_pins, degree, share, has_node}
 use Rattle.net_model.specs.Network.{node_of, pins_in}
-use Rattle.net_model.specs.Steps.{IsUnmarked, nears_in, nears_by, pins_by, AreJoined}
-use Rattle.net_model.specs.Joining.{is_at, AreDistinct, paired_near, paired_pin, paired_point, ArePaired}
-use Rattle.net_model.proofs.CliqueNodes.{first_new, joined_first, All_first}
+use Rattle.net_model.specs.Forms.Steps.{IsUnmarked, nears_in, nears_by, pins_by, AreJoined}
+use Rattle.net_model.specs.Forms.Joining.{is_at, AreDistinct, paired_near, paired_pin, paired_point, ArePaired}
+use Rattle.net_model.proofs.CliqueNodes.{distinct_first, joined_first, All_first}
 
 -- a net without a weight gives nothing
 none_near : (design : DesignValue) (i : ℕ) (net : NetValue) → share net ≡ 0 → nears_in design i net ≡ []
@@ -124,9 +125,6 @@ nets_more nets k net less item =
     take_more (net_values nets) k none (omega (arith, length-map nets net_value))
     ∙ ap (λ e. take k (net_values nets) ++ e ∷ []) (get_or-map net_value nets k net none less ∙ ap net_value (sym item))
 
-pub nets_all : (nets : List Net) (values : List NetValue) (k : ℕ) → net_values nets ≡ values → length nets ≤ k → take k (net_values nets) ≡ values
-nets_all nets values k e end = take_all k (net_values nets) (omega (arith, length-map nets net_value)) ∙ e
-
 -- the members of a net are at nodes that are there, each at another one
 pub good_pins : (nodes : ℕ) (net : NetValue) (pins : List Pin) → IsGoodNet nodes net → pins ≡ net.pins → All (IsGoodPin nodes) pins
 good_pins nodes net pins h e = let P : List Pin → Type 0 = All (IsGoodPin nodes) in subst P (sym e) (All-from_recursion (IsGoodPin nodes) net.pins h.pins)
@@ -134,10 +132,10 @@ good_pins nodes net pins h e = let P : List Pin → Type 0 = All (IsGoodPin node
 pub distinct_members : (net : NetValue) (members : List Pin) → members ≡ first_pins net.pins → AreDistinct members
 distinct_members net members e =
     let P : List Pin → Type 0 = AreDistinct in
-    subst P (sym e) (λ k less. first_new net.pins k _ less)
+    subst P (sym e) (distinct_first net.pins)
 
-pub share_is : (net : NetValue) (k weight : ℕ) → k ≡ degree net → weight ≡ cond (nat_lt 1 k) (840 * net.weight / (k - 1)) 0 → weight ≡ share net
-share_is net k weight e is = is ∙ ap (λ d. cond (nat_lt 1 d) (840 * net.weight / (d - 1)) 0) e
+pub share_is : (net : NetValue) (k weight : ℕ) → k ≡ degree net → weight ≡ cond (nat_lt 1 k) (NET_WEIGHT * net.weight / (k - 1)) 0 → weight ≡ share net
+share_is net k weight e is = is ∙ ap (λ d. cond (nat_lt 1 d) (NET_WEIGHT * net.weight / (d - 1)) 0) e
 
 pub unmarked_by : (nodes count : ℕ) (seen : List Bool) → count ≡ length seen → IsUnmarked nodes seen → IsUnmarked count seen
 unmarked_by nodes count seen e h = let P : ℕ → Type 0 = λ n. IsUnmarked n seen in subst P (sym (e ∙ h.all)) h

@@ -1,16 +1,19 @@
-mod Movable
-pub mod CliqueNodes
-pub mod CliqueMarks
-pub mod CountingTerms
-mod JoiningPins
-mod JoiningNets
 mod JoiningFresh
+mod JoiningNets
+mod JoiningPins
 mod JoiningSteps
-mod MergingSums
-mod MergingRuns
-mod MakingPoints
-mod MakingNets
 mod MakingEntries
-mod MakingOrder
-mod MakingWell
+mod MakingNets
 mod MakingNetwork
+mod MakingOrder
+mod MakingPoints
+mod MakingWell
+mod MergingRuns
+mod MergingSums
+mod Movable
+mod NetPairs
+mod OneNetwork
+mod PairCounts
+pub mod CliqueMarks
+pub mod CliqueNodes
+pub mod CountingTerms

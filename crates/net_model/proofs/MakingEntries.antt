@@ -9,14 +9,16 @@ use Rattle.book_design.specs.declared.parts.Pin.{Pin}
 use Rattle.book_design.specs.Values.{NetValue, DesignValue}
 use Rattle.book_design.specs.Points.{is_movable, movable_before, IsNodeOf}
 use Rattle.book_design.specs.WellFormed.{IsDesign, IsGoodNet}
+use Rattle.net_model.specs.declared.limits.TheConstants.{NET_WEIGHT}
 use Rattle.net_model.specs.declared.parts.Near.{Near}
 use Rattle.net_model.specs.declared.parts.FixedPin.{FixedPin}
 use Rattle.net_model.specs.Clique.{first_pins, has_node, share}
 use Rattle.net_model.specs.Network.{node_at, node_of, point_nodes, pair_weight, as_near, near_of, pins_in}
-use Rattle.net_model.specs.Steps.{nears_in, nears_by, pins_by, weight_at, as_sum, IsEntry}
+use Rattle.net_model.specs.Forms.Joining.{paired_near}
+use Rattle.net_model.specs.Forms.Steps.{nears_in, nears_by, pins_by, weight_at, as_sum, IsEntry}
 use Rattle.net_model.proofs.Movable.{stands_at_point}
 use Rattle.net_model.proofs.MergingSums.{weight_sum, weight_at-append}
-use Rattle.net_model.proofs.MakingNets.{pin_sum, other, node_of_point, movable_there, net_weight, net_own_weight, net_bound}
+use Rattle.net_model.proofs.MakingNets.{pin_sum, node_of_point, movable_there, net_weight, net_own_weight, net_bound}
 
 -- what the nets with both nodes give them
 abbrev shared : ℕ → ℕ → NetValue → ℕ
@@ -69,12 +71,12 @@ entries_by_tests design s i pin rest positive false true e all =
     All-cons (IsEntry (length (point_nodes design))) (record { point = movable_before design.nodes pin.node; weight = s }) rest (record { there = stands.inside; positive = positive }) all
 entries_by_tests design s i pin rest positive false false e all = all
 
-pins_entries : (design : DesignValue) (s i : ℕ) (pins : List Pin) → 1 ≤ s → All (IsEntry (length (point_nodes design))) (filter_map (other design s i) pins)
+pins_entries : (design : DesignValue) (s i : ℕ) (pins : List Pin) → 1 ≤ s → All (IsEntry (length (point_nodes design))) (filter_map (paired_near design s i) pins)
 pins_entries design s i [] positive = All-nil (IsEntry (length (point_nodes design)))
 pins_entries design s i (pin ∷ pins) positive =
-    entries_by_tests design s i pin (filter_map (other design s i) pins) positive (eqb pin.node i) (is_movable (node_at design pin.node)) refl (pins_entries design s i pins positive)
+    entries_by_tests design s i pin (filter_map (paired_near design s i) pins) positive (eqb pin.node i) (is_movable (node_at design pin.node)) refl (pins_entries design s i pins positive)
 
-net_by_tests : (design : DesignValue) (net : NetValue) (i s : ℕ) (a b : Bool) → eqb s 0 ≡ a → All (IsEntry (length (point_nodes design))) (if a then [] else if b then filter_map (other design s i) (first_pins net.pins) else [])
+net_by_tests : (design : DesignValue) (net : NetValue) (i s : ℕ) (a b : Bool) → eqb s 0 ≡ a → All (IsEntry (length (point_nodes design))) (if a then [] else if b then filter_map (paired_near design s i) (first_pins net.pins) else [])
 net_by_tests design net i s true b e = All-nil (IsEntry (length (point_nodes design)))
 net_by_tests design net i s false true e = let some = eqb-false s 0 e in pins_entries design s i (first_pins net.pins) (grind arith)
 net_by_tests design net i s false false e = All-nil (IsEntry (length (point_nodes design)))
@@ -84,8 +86,8 @@ nears_entries design [] i = All-nil (IsEntry (length (point_nodes design)))
 nears_entries design (net ∷ nets) i =
     All-append (IsEntry (length (point_nodes design))) (nears_in design i net) (nears_by design nets i) (net_by_tests design net i (share net) (eqb (share net) 0) (has_node net i) refl) (nears_entries design nets i)
 
--- the nets together give a point no more than 840 times 65,535 each
-nets_bound : (design : DesignValue) (nets : List NetValue) (i n : ℕ) → is_movable (node_at design i) ≡ true → AllByRecursion (IsGoodNet n) nets → weight_sum (nears_by design nets i) + pin_sum (pins_by design nets i) ≤ length nets * 55049400
+-- the nets together give a point no more than that of the greatest weight each
+nets_bound : (design : DesignValue) (nets : List NetValue) (i n : ℕ) → is_movable (node_at design i) ≡ true → AllByRecursion (IsGoodNet n) nets → weight_sum (nears_by design nets i) + pin_sum (pins_by design nets i) ≤ length nets * (NET_WEIGHT * 65535)
 nets_bound design [] i n movable good = omega arith
 nets_bound design (net ∷ nets) i n movable good =
     omega (

@@ -1,4 +1,4 @@
--- What one net gives a node: its share for each other node, once, and in all no more than 840 times its weight.
+-- What one net gives a node: its share for each other node, once, and in all no more than `NET_WEIGHT` times its weight.
 use Rattle.std.proofs.Common.{◌≡◌, ◌≢◌, ◌⊎◌, ℕ, zero, suc, ◌+◌, ◌-◌, ◌*◌, ◌/◌, ◌<◌, ◌≤◌, Bool, true, false, not, ◌&&◌, ◌||◌, cond, eqb, ltb, List, [], ◌∷◌, length, refl, sym, ◌∙◌, ap, inl, inr, arith}
 use Rattle.std.specs.Prelude.{Option, None, Some, if◌then◌else◌, ◌==◌, ◌+ℤ◌, sum_by}
 use Rattle.std.specs.List.{filter_map, cons_option}
@@ -9,28 +9,20 @@ use Rattle.std.proofs.lemmas.List.Sums.{sum_by-cons}
 use Rattle.book_design.specs.declared.parts.Pin.{Pin}
 use Rattle.book_design.specs.Values.{NodeValue, NetValue, DesignValue}
 use Rattle.book_design.specs.Points.{is_movable, node_value_at, movable_before, IsNodeOf}
+use Rattle.net_model.specs.declared.limits.TheConstants.{NET_WEIGHT}
 use Rattle.net_model.specs.declared.parts.Near.{Near}
 use Rattle.net_model.specs.declared.parts.FixedPin.{FixedPin}
 use Rattle.net_model.specs.Clique.{first_pins, has_node, share, centre_x, centre_y}
 use Rattle.net_model.specs.Network.{node_at, node_of, point_nodes, pins_in}
-use Rattle.net_model.specs.Steps.{nears_in, weight_at}
+use Rattle.net_model.specs.Forms.Joining.{is_at, AreDistinct, paired_near, paired_pin}
+use Rattle.net_model.specs.Forms.Steps.{nears_in, weight_at}
 use Rattle.net_model.proofs.Movable.{no_node, each_movable, one_number}
-use Rattle.net_model.proofs.CliqueNodes.{is_joined, AreDistinct, distinct_first, joined_first}
+use Rattle.net_model.proofs.CliqueNodes.{distinct_first, joined_first}
 use Rattle.net_model.proofs.MergingSums.{weight_sum, weight_at-cons}
 
 -- the sum of the weights of fixed pins
 abbrev pub pin_sum : List FixedPin → ℕ
 pin_sum pins = sum_by (λ pin. pin.weight) pins
-
--- a pin's node as a neighbour of another node, with that weight
-abbrev pub other : DesignValue → ℕ → ℕ → Pin → Option Near
-other design s i pin = if (pin.node == i) || not (is_movable (node_at design pin.node)) then None
-    else Some (record { point = movable_before design.nodes pin.node; weight = s })
-
--- a pin as a fixed one, with that weight
-abbrev pub anchor : DesignValue → ℕ → Pin → Option FixedPin
-anchor design s pin = if is_movable (node_at design pin.node) then None
-    else Some (record { weight = s; x = centre_x (node_at design pin.node) +ℤ pin.dx; y = centre_y (node_at design pin.node) +ℤ pin.dy })
 
 -- the node of a point
 pub node_of_point : (design : DesignValue) (p : ℕ) → p < length (point_nodes design) → IsNodeOf design.nodes p (node_of design p)
@@ -56,7 +48,7 @@ fixed_apart : (nodes : List NodeValue) (q j k : ℕ) → IsNodeOf nodes q j → 
 fixed_apart nodes q j k h fixed = ne_eqb k j (λ same. both_ways (is_movable (node_value_at nodes k)) fixed (ap (λ n. is_movable (node_value_at nodes n)) same ∙ h.movable))
 
 -- what a pin gives a point: nothing at the node itself, and elsewhere the weight to its own
-pin_weight : (design : DesignValue) (s i q j : ℕ) (pin : Pin) (rest : List Near) → IsNodeOf design.nodes q j → weight_at (cons_option (other design s i pin) rest) q ≡ cond (eqb pin.node i) 0 (cond (eqb pin.node j) s 0) + weight_at rest q
+pin_weight : (design : DesignValue) (s i q j : ℕ) (pin : Pin) (rest : List Near) → IsNodeOf design.nodes q j → weight_at (cons_option (paired_near design s i pin) rest) q ≡ cond (eqb pin.node i) 0 (cond (eqb pin.node j) s 0) + weight_at rest q
 pin_weight design s i q j pin rest h = by_tests (eqb pin.node i) (is_movable (node_at design pin.node)) refl where
   near : Near
   near = record { point = movable_before design.nodes pin.node; weight = s }
@@ -75,30 +67,30 @@ own_step : (s : ℕ) (b : Bool) (rest : ℕ) → rest ≡ 0 → cond b 0 (cond b
 own_step s true rest none = omega arith
 own_step s false rest none = omega arith
 
-pub own_weight : (design : DesignValue) (s i p : ℕ) (pins : List Pin) → IsNodeOf design.nodes p i → weight_at (filter_map (other design s i) pins) p ≡ 0
+pub own_weight : (design : DesignValue) (s i p : ℕ) (pins : List Pin) → IsNodeOf design.nodes p i → weight_at (filter_map (paired_near design s i) pins) p ≡ 0
 own_weight design s i p [] h = refl
 own_weight design s i p (pin ∷ pins) h =
-    pin_weight design s i p i pin (filter_map (other design s i) pins) h ∙ own_step s (eqb pin.node i) (weight_at (filter_map (other design s i) pins) p) (own_weight design s i p pins h)
+    pin_weight design s i p i pin (filter_map (paired_near design s i) pins) h ∙ own_step s (eqb pin.node i) (weight_at (filter_map (paired_near design s i) pins) p) (own_weight design s i p pins h)
 
-other_step : (s i j : ℕ) (pin : Pin) (pins : List Pin) (rest : ℕ) → j ≢ i → is_joined pins pin.node ≡ false → rest ≡ cond (is_joined pins j) s 0 → (b : Bool) → eqb pin.node j ≡ b
-    → cond (eqb pin.node i) 0 (cond b s 0) + rest ≡ cond (b || is_joined pins j) s 0
+other_step : (s i j : ℕ) (pin : Pin) (pins : List Pin) (rest : ℕ) → j ≢ i → is_at pins pin.node ≡ false → rest ≡ cond (is_at pins j) s 0 → (b : Bool) → eqb pin.node j ≡ b
+    → cond (eqb pin.node i) 0 (cond b s 0) + rest ≡ cond (b || is_at pins j) s 0
 other_step s i j pin pins rest apart new same true e =
     let elsewhere : eqb pin.node i ≡ false = ne_eqb pin.node i (λ at. apart (sym (eqb-true pin.node j e) ∙ at)) in
     let here : cond (eqb pin.node i) 0 s ≡ s = ap (λ b. cond b 0 s) elsewhere in
-    let none : cond (is_joined pins j) s 0 ≡ 0 = ap (λ b. cond b s 0) (sym (ap (is_joined pins) (eqb-true pin.node j e)) ∙ new) in
+    let none : cond (is_at pins j) s 0 ≡ 0 = ap (λ b. cond b s 0) (sym (ap (is_at pins) (eqb-true pin.node j e)) ∙ new) in
     omega (arith, here, none, same)
 other_step s i j pin pins rest apart new same false e = omega (arith, zero_either 0 (eqb pin.node i) refl, same)
 
 -- and another one the weight, where a pin is there
-pub other_weight : (design : DesignValue) (s i q j : ℕ) (pins : List Pin) → IsNodeOf design.nodes q j → j ≢ i → AreDistinct pins → weight_at (filter_map (other design s i) pins) q ≡ cond (is_joined pins j) s 0
+pub other_weight : (design : DesignValue) (s i q j : ℕ) (pins : List Pin) → IsNodeOf design.nodes q j → j ≢ i → AreDistinct pins → weight_at (filter_map (paired_near design s i) pins) q ≡ cond (is_at pins j) s 0
 other_weight design s i q j [] h apart distinct = refl
 other_weight design s i q j (pin ∷ pins) h apart distinct =
-    pin_weight design s i q j pin (filter_map (other design s i) pins) h
-    ∙ other_step s i j pin pins (weight_at (filter_map (other design s i) pins) q) apart distinct.0 (other_weight design s i q j pins h apart distinct.1) (eqb pin.node j) refl
+    pin_weight design s i q j pin (filter_map (paired_near design s i) pins) h
+    ∙ other_step s i j pin pins (weight_at (filter_map (paired_near design s i) pins) q) apart distinct.0 (other_weight design s i q j pins h apart distinct.1) (eqb pin.node j) refl
 
 -- a net gives a point its share, where both of them have a pin
 net_by_tests : (design : DesignValue) (net : NetValue) (i q j : ℕ) (s : ℕ) → IsNodeOf design.nodes q j → j ≢ i → (a b : Bool) → eqb s 0 ≡ a
-    → weight_at (if a then [] else if b then filter_map (other design s i) (first_pins net.pins) else []) q ≡ cond (b && has_node net j) s 0
+    → weight_at (if a then [] else if b then filter_map (paired_near design s i) (first_pins net.pins) else []) q ≡ cond (b && has_node net j) s 0
 net_by_tests design net i q j s h apart true b e = sym (zero_choice (b && has_node net j) (eqb-true s 0 e)) where
   zero_choice : (c : Bool) → s ≡ 0 → cond c s 0 ≡ 0
   zero_choice true none = none
@@ -111,7 +103,7 @@ pub net_weight : (design : DesignValue) (net : NetValue) (i q j : ℕ) → IsNod
 net_weight design net i q j h apart = net_by_tests design net i q j (share net) h apart (eqb (share net) 0) (has_node net i) refl
 
 own_by_tests : (design : DesignValue) (net : NetValue) (i p : ℕ) (s : ℕ) → IsNodeOf design.nodes p i → (a b : Bool)
-    → weight_at (if a then [] else if b then filter_map (other design s i) (first_pins net.pins) else []) p ≡ 0
+    → weight_at (if a then [] else if b then filter_map (paired_near design s i) (first_pins net.pins) else []) p ≡ 0
 own_by_tests design net i p s h true b = refl
 own_by_tests design net i p s h false true = own_weight design s i p (first_pins net.pins) h
 own_by_tests design net i p s h false false = refl
@@ -121,7 +113,7 @@ net_own_weight design net i p h = own_by_tests design net i p (share net) h (eqb
 
 -- each pin at another node gives its weight once
 pin_bound : (design : DesignValue) (s i : ℕ) (pin : Pin) (near : List Near) (pins : List FixedPin) → is_movable (node_at design i) ≡ true
-    → weight_sum (cons_option (other design s i pin) near) + pin_sum (cons_option (anchor design s pin) pins) + cond (eqb pin.node i) s 0 ≡ s + (weight_sum near + pin_sum pins)
+    → weight_sum (cons_option (paired_near design s i pin) near) + pin_sum (cons_option (paired_pin design s pin) pins) + cond (eqb pin.node i) s 0 ≡ s + (weight_sum near + pin_sum pins)
 pin_bound design s i pin near pins movable = by_tests (eqb pin.node i) (is_movable (node_at design pin.node)) refl refl where
   one : Near
   one = record { point = movable_before design.nodes pin.node; weight = s }
@@ -137,26 +129,26 @@ pin_bound design s i pin near pins movable = by_tests (eqb pin.node i) (is_movab
   by_tests false false e f = omega (arith, sum_by-cons (λ (p : FixedPin). p.weight) fixed pins)
 
 -- so many pins at once, less one at the node itself
-bound_step : (s i k : ℕ) (pin : Pin) (pins : List Pin) (all rest : ℕ) → all + cond (eqb pin.node i) s 0 ≡ s + rest → rest + cond (is_joined pins i) s 0 ≤ k → all + cond (eqb pin.node i || is_joined pins i) s 0 ≤ s + k
+bound_step : (s i k : ℕ) (pin : Pin) (pins : List Pin) (all rest : ℕ) → all + cond (eqb pin.node i) s 0 ≡ s + rest → rest + cond (is_at pins i) s 0 ≤ k → all + cond (eqb pin.node i || is_at pins i) s 0 ≤ s + k
 bound_step s i k pin pins all rest = by_test (eqb pin.node i) where
-  by_test : (b : Bool) → all + cond b s 0 ≡ s + rest → rest + cond (is_joined pins i) s 0 ≤ k → all + cond (b || is_joined pins i) s 0 ≤ s + k
+  by_test : (b : Bool) → all + cond b s 0 ≡ s + rest → rest + cond (is_at pins i) s 0 ≤ k → all + cond (b || is_at pins i) s 0 ≤ s + k
   by_test true e h = omega arith
   by_test false e h = omega arith
 
 pub pins_bound : (design : DesignValue) (s i : ℕ) (pins : List Pin) → is_movable (node_at design i) ≡ true
-    → weight_sum (filter_map (other design s i) pins) + pin_sum (filter_map (anchor design s) pins) + cond (is_joined pins i) s 0 ≤ length pins * s
+    → weight_sum (filter_map (paired_near design s i) pins) + pin_sum (filter_map (paired_pin design s) pins) + cond (is_at pins i) s 0 ≤ length pins * s
 pins_bound design s i [] movable = omega arith
 pins_bound design s i (pin ∷ pins) movable =
-    let near = filter_map (other design s i) pins in
-    let fixed = filter_map (anchor design s) pins in
-    let step = bound_step s i (length pins * s) pin pins (weight_sum (filter_map (other design s i) (pin ∷ pins)) + pin_sum (filter_map (anchor design s) (pin ∷ pins))) (weight_sum near + pin_sum fixed) (pin_bound design s i pin near fixed movable) (pins_bound design s i pins movable) in
+    let near = filter_map (paired_near design s i) pins in
+    let fixed = filter_map (paired_pin design s) pins in
+    let step = bound_step s i (length pins * s) pin pins (weight_sum (filter_map (paired_near design s i) (pin ∷ pins)) + pin_sum (filter_map (paired_pin design s) (pin ∷ pins))) (weight_sum near + pin_sum fixed) (pin_bound design s i pin near fixed movable) (pins_bound design s i pins movable) in
     omega (arith, step, suc-mul (length pins) s)
 
 -- the shares of all but one of so many nodes
-share_bound : (d w : ℕ) → (d - 1) * (if ltb 1 d then 840 * w / (d - 1) else 0) ≤ 840 * w
+share_bound : (d w : ℕ) → (d - 1) * (if ltb 1 d then NET_WEIGHT * w / (d - 1) else 0) ≤ NET_WEIGHT * w
 share_bound d w = by_test (ltb 1 d) where
-  by_test : (b : Bool) → (d - 1) * (if b then 840 * w / (d - 1) else 0) ≤ 840 * w
-  by_test true = mul-div-le (840 * w) (d - 1)
+  by_test : (b : Bool) → (d - 1) * (if b then NET_WEIGHT * w / (d - 1) else 0) ≤ NET_WEIGHT * w
+  by_test true = mul-div-le (NET_WEIGHT * w) (d - 1)
   by_test false = omega arith
 
 all_but_one : (d s all : ℕ) → all + s ≤ d * s → all ≤ (d - 1) * s
@@ -164,17 +156,17 @@ all_but_one zero s all h = omega arith
 all_but_one (suc d) s all h = let e : suc d - 1 ≡ d = omega arith in omega (arith, suc-mul d s, ap (λ k. k * s) e)
 
 bound_by_tests : (design : DesignValue) (net : NetValue) (i : ℕ) (s : ℕ) → is_movable (node_at design i) ≡ true → (a b : Bool) → has_node net i ≡ b
-    → weight_sum (if a then [] else if b then filter_map (other design s i) (first_pins net.pins) else []) + pin_sum (if a then [] else if b then filter_map (anchor design s) (first_pins net.pins) else [])
+    → weight_sum (if a then [] else if b then filter_map (paired_near design s i) (first_pins net.pins) else []) + pin_sum (if a then [] else if b then filter_map (paired_pin design s) (first_pins net.pins) else [])
     ≤ (length (first_pins net.pins) - 1) * s
 bound_by_tests design net i s movable true b e = omega arith
 bound_by_tests design net i s movable false true e =
     let first = first_pins net.pins in
-    let all = weight_sum (filter_map (other design s i) first) + pin_sum (filter_map (anchor design s) first) in
-    let own : cond (is_joined first i) s 0 ≡ s = ap (λ b. cond b s 0) (joined_first net.pins i ∙ e) in
+    let all = weight_sum (filter_map (paired_near design s i) first) + pin_sum (filter_map (paired_pin design s) first) in
+    let own : cond (is_at first i) s 0 ≡ s = ap (λ b. cond b s 0) (joined_first net.pins i ∙ e) in
     all_but_one (length first) s all (omega (arith, pins_bound design s i first movable, own))
 bound_by_tests design net i s movable false false e = omega arith
 
 -- what a net gives a point, as neighbours and as fixed pins
-pub net_bound : (design : DesignValue) (net : NetValue) (i : ℕ) → is_movable (node_at design i) ≡ true → weight_sum (nears_in design i net) + pin_sum (pins_in design i net) ≤ 840 * net.weight
+pub net_bound : (design : DesignValue) (net : NetValue) (i : ℕ) → is_movable (node_at design i) ≡ true → weight_sum (nears_in design i net) + pin_sum (pins_in design i net) ≤ NET_WEIGHT * net.weight
 net_bound design net i movable =
     omega (arith, bound_by_tests design net i (share net) movable (eqb (share net) 0) (has_node net i) refl, share_bound (length (first_pins net.pins)) net.weight)

@@ -14,7 +14,7 @@ use Rattle.net_model.specs.declared.parts.Near.{Near}
 use Rattle.net_model.specs.declared.parts.FixedPin.{FixedPin}
 use Rattle.net_model.specs.declared.point.NetPoint.{NetPoint}
 use Rattle.net_model.specs.Network.{node_of, point_nodes, point_value, network_of, total_weight, IsHeavy}
-use Rattle.net_model.specs.Steps.{nears_by, as_sum, IsJoined, AreJoined, IsEntry, IsUnsummed, summed, IsHeavyPoint}
+use Rattle.net_model.specs.Forms.Steps.{nears_by, as_sum, IsJoined, AreJoined, IsEntry, IsUnsummed, summed, IsHeavyPoint}
 use Rattle.net_model.specs.Values.{PointValue, NetworkValue, point_at, point_entry, point_values}
 use Rattle.net_model.specs.WellFormed.{IsNet}
 use Rattle.net_model.proofs.MergingSums.{weight_sum, weight_sum-as_sum}

@@ -4,10 +4,11 @@ use Rattle.std.specs.Prelude.{All}
 use Rattle.std.proofs.lemmas.List.{get_or-map, get_or-append_right, get_or-drop, length-map, length-take, length-drop, length-append, map-set}
 use Rattle.std.proofs.lemmas.List.Edits.{map_over_more}
 use Rattle.std.proofs.lemmas.List.Elements.{All-get_or, All-weaker}
+use Rattle.net_model.specs.declared.limits.TheConstants.{MOST_WEIGHT}
 use Rattle.net_model.specs.declared.point.NetPoint.{NetPoint}
 use Rattle.net_model.specs.Values.{PointValue, point_entry, point_values, point_at}
 use Rattle.net_model.specs.Network.{total_weight}
-use Rattle.net_model.specs.Steps.{IsEntry, IsUnsummed, summed, IsHeavyPoint}
+use Rattle.net_model.specs.Forms.Steps.{IsEntry, IsUnsummed, summed, IsHeavyPoint}
 
 abbrev pub no_point : PointValue
 no_point = record { near = []; pins = []; area = 0 }
@@ -62,5 +63,5 @@ light_at points i p inside e all =
     let P : PointValue → Type 0 = λ point. total_weight point < 2 ^ 64 in
     subst P (point_read points i p inside e) (All-get_or P (point_values points) i no_point (omega (arith, length-map points point_entry)) all)
 
-pub not_heavy : (points : List NetPoint) (i : ℕ) (p : NetPoint) → i < length points → p ≡ get_or points i p → total_weight (point_entry p) ≤ 2 ^ 40 → IsHeavyPoint (point_values points) i → ⊥
+pub not_heavy : (points : List NetPoint) (i : ℕ) (p : NetPoint) → i < length points → p ≡ get_or points i p → total_weight (point_entry p) ≤ MOST_WEIGHT → IsHeavyPoint (point_values points) i → ⊥
 not_heavy points i p inside e light heavy = omega (arith, ap total_weight (point_read points i p inside e), heavy.1)

@@ -13,16 +13,18 @@ use Rattle.book_design.specs.declared.parts.Pin.{Pin}
 use Rattle.book_design.specs.Values.{NetValue, DesignValue}
 use Rattle.book_design.specs.Points.{is_movable, site_count}
 use Rattle.book_design.specs.WellFormed.{IsDesign, IsGoodNode, IsGoodNet, IsGoodPin as IsGoodNetPin}
+use Rattle.net_model.specs.declared.limits.TheConstants.{MOST_WEIGHT}
 use Rattle.net_model.specs.declared.parts.Near.{Near}
 use Rattle.net_model.specs.declared.parts.FixedPin.{FixedPin}
 use Rattle.net_model.specs.Clique.{first_pins, has_node, share, centre_x, centre_y}
-use Rattle.net_model.specs.Network.{node_at, node_of, point_nodes, pair_weight, as_near, pins_in, pins_of, point_value, network_of, total_weight, IsHeavy, IsNetwork}
-use Rattle.net_model.specs.Steps.{pins_by}
+use Rattle.net_model.specs.Network.{node_at, node_of, point_nodes, pair_weight, as_near, pins_in, pins_of, point_value, network_of, total_weight, IsHeavy}
+use Rattle.net_model.specs.Forms.Joining.{paired_pin}
+use Rattle.net_model.specs.Forms.Steps.{pins_by}
 use Rattle.net_model.specs.Values.{PointValue, NetworkValue, point_at}
 use Rattle.net_model.specs.WellFormed.{IsGoodNear, IsGoodPin, IsGoodPoint, IsNet}
 use Rattle.net_model.proofs.Movable.{no_node, count_movable}
 use Rattle.net_model.proofs.CliqueNodes.{All_first}
-use Rattle.net_model.proofs.MakingNets.{anchor, node_of_point}
+use Rattle.net_model.proofs.MakingNets.{node_of_point}
 use Rattle.net_model.proofs.MakingPoints.{no_point}
 use Rattle.net_model.proofs.MakingOrder.{near_ascending}
 
@@ -64,16 +66,16 @@ fixed_by_test : (fixed : FixedPin) (rest : List FixedPin) (c : Bool) → IsGoodP
 fixed_by_test fixed rest true good all = all
 fixed_by_test fixed rest false good all = (good, all)
 
-pins_good : (design : DesignValue) (s : ℕ) (pins : List Pin) → IsDesign design → 1 ≤ s → AllByRecursion (IsGoodNetPin (length design.nodes)) pins → AllByRecursion IsGoodPin (filter_map (anchor design s) pins)
+pins_good : (design : DesignValue) (s : ℕ) (pins : List Pin) → IsDesign design → 1 ≤ s → AllByRecursion (IsGoodNetPin (length design.nodes)) pins → AllByRecursion IsGoodPin (filter_map (paired_pin design s) pins)
 pins_good design s [] h positive good = tt
 pins_good design s (pin ∷ pins) h positive good =
-    fixed_by_test (record { weight = s; x = centre_x (node_at design pin.node) +ℤ pin.dx; y = centre_y (node_at design pin.node) +ℤ pin.dy }) (filter_map (anchor design s) pins) (is_movable (node_at design pin.node)) (fixed_good design s pin h positive good.0) (pins_good design s pins h positive good.1)
+    fixed_by_test (record { weight = s; x = centre_x (node_at design pin.node) +ℤ pin.dx; y = centre_y (node_at design pin.node) +ℤ pin.dy }) (filter_map (paired_pin design s) pins) (is_movable (node_at design pin.node)) (fixed_good design s pin h positive good.0) (pins_good design s pins h positive good.1)
 
 first_good : (nodes : ℕ) (pins : List Pin) → AllByRecursion (IsGoodNetPin nodes) pins → AllByRecursion (IsGoodNetPin nodes) (first_pins pins)
 first_good nodes pins good = recursion_from_All (IsGoodNetPin nodes) (first_pins pins) (All_first (IsGoodNetPin nodes) pins (All-from_recursion (IsGoodNetPin nodes) pins good))
 
 net_by_tests : (design : DesignValue) (net : NetValue) (s : ℕ) → IsDesign design → IsGoodNet (length design.nodes) net → (a b : Bool) → eqb s 0 ≡ a
-    → AllByRecursion IsGoodPin (if a then [] else if b then filter_map (anchor design s) (first_pins net.pins) else [])
+    → AllByRecursion IsGoodPin (if a then [] else if b then filter_map (paired_pin design s) (first_pins net.pins) else [])
 net_by_tests design net s h good true b e = tt
 net_by_tests design net s h good false true e = let some = eqb-false s 0 e in pins_good design s (first_pins net.pins) h (grind arith) (first_good (length design.nodes) net.pins good.pins)
 net_by_tests design net s h good false false e = tt
@@ -106,7 +108,7 @@ network_point design p h = get_or-map-range_with_len (point_value design) 0 (len
 pub network_points : (design : DesignValue) → length (network_of design).points ≡ length (point_nodes design)
 network_points design = length-map-range_with_len (point_value design) 0 (length (point_nodes design))
 
-point_good : (design : DesignValue) (p : ℕ) → IsDesign design → total_weight (point_value design p) ≤ 2 ^ 40 → p < length (point_nodes design) → IsGoodPoint (length (point_nodes design)) p (point_value design p)
+point_good : (design : DesignValue) (p : ℕ) → IsDesign design → total_weight (point_value design p) ≤ MOST_WEIGHT → p < length (point_nodes design) → IsGoodPoint (length (point_nodes design)) p (point_value design p)
 point_good design p h light inside =
     let own = node_of_point design p inside in
     let node = good_node design (node_of design p) h own.there in
@@ -129,11 +131,8 @@ net_without_heavy design h light = record {
       subst P (sym (network_points design)) (subst Q (sym (network_point design p there)) (point_good design p h (not_above (total_weight (point_value design p)) (λ more. light p (there, more))) there));
   core = h.core;
 } where
-  not_above : (n : ℕ) → (2 ^ 40 < n → ⊥) → n ≤ 2 ^ 40
-  not_above n none = by_cases (cases_lt (2 ^ 40) n) where
-    by_cases : (2 ^ 40 < n) ⊎ (n ≤ 2 ^ 40) → n ≤ 2 ^ 40
+  not_above : (n : ℕ) → (MOST_WEIGHT < n → ⊥) → n ≤ MOST_WEIGHT
+  not_above n none = by_cases (cases_lt MOST_WEIGHT n) where
+    by_cases : (MOST_WEIGHT < n) ⊎ (n ≤ MOST_WEIGHT) → n ≤ MOST_WEIGHT
     by_cases (inl more) = absurd (none more)
     by_cases (inr less) = less
-
-pub network_is_net : (design : DesignValue) (network : NetworkValue) → IsDesign design → IsNetwork design network → IsNet network
-network_is_net design network h made = let P : NetworkValue → Type 0 = IsNet in subst P (sym made.made) (net_without_heavy design h made.light)

@@ -7,7 +7,7 @@ use Rattle.std.proofs.lemmas.Bool.Decides.{nat_tests}
 use Rattle.std.proofs.lemmas.List.{take_more, take-set, take_all, length-set, get_or-set_same, get_or-set_other, get_or_default, nil_from_length}
 use Rattle.std.proofs.lemmas.List.Sums.{sum_by_more_le_part}
 use Rattle.net_model.specs.declared.parts.Near.{Near}
-use Rattle.net_model.specs.Steps.{weight_at, as_sum}
+use Rattle.net_model.specs.Forms.Steps.{weight_at, as_sum}
 use Rattle.net_model.proofs.MergingSums.{weight_for, weight_sum, sum_of, weight_at-cons, weight_at-append}
 
 -- ---- a list with points that rise is the list of its sums

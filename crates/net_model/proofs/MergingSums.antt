@@ -8,7 +8,7 @@ use Rattle.std.proofs.lemmas.List.Elements.{All-head, All-tail}
 use Rattle.std.proofs.lemmas.List.Sorted.{sum_by-IsPermutation}
 use Rattle.std.proofs.lemmas.List.Sums.{sum_by-cons, sum_by-append}
 use Rattle.net_model.specs.declared.parts.Near.{Near}
-use Rattle.net_model.specs.Steps.{weight_at, as_sum}
+use Rattle.net_model.specs.Forms.Steps.{weight_at, as_sum}
 
 -- what an entry gives a point
 abbrev pub weight_for : ℕ → Near → ℕ

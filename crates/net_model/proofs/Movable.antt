@@ -114,9 +114,3 @@ each_movable nodes (suc n) i inside h =
 pub one_number : (nodes : List NodeValue) (i j : ℕ) → i < length nodes → j < length nodes → is_movable (node_value_at nodes i) ≡ true → is_movable (node_value_at nodes j) ≡ true → movable_before nodes i ≡ movable_before nodes j → i ≡ j
 one_number nodes i j hi hj mi mj e =
     sym (stands_at_point nodes (length nodes) i (omega arith) hi mi).there ∙ ap (λ k. get_or (movable_up_to nodes (length nodes)) k 0) e ∙ (stands_at_point nodes (length nodes) j (omega arith) hj mj).there
-
-pub with_movable : (nodes : List NodeValue) (n : ℕ) → is_movable (node_value_at nodes n) ≡ true → movable_up_to nodes (n + 1) ≡ movable_up_to nodes n ++ n ∷ []
-with_movable nodes n e = movable_more nodes n ∙ ap (λ b. movable_up_to nodes n ++ cond b (n ∷ []) []) e
-
-pub without_movable : (nodes : List NodeValue) (n : ℕ) → is_movable (node_value_at nodes n) ≡ false → movable_up_to nodes (n + 1) ≡ movable_up_to nodes n
-without_movable nodes n e = movable_more nodes n ∙ ap (λ b. movable_up_to nodes n ++ cond b (n ∷ []) []) e ∙ append_none (movable_up_to nodes n)

@@ -1,5 +1,5 @@
 -- What is answered of a design's nets.
-use Rattle.std.specs.Prelude.{◌≡◌, Result, Ok, Err}
+use Rattle.std.specs.Prelude.{◌≡◌, ◌⊎◌, Result, Ok, Err}
 use Rattle.book_design.specs.Values.{DesignValue}
 use Rattle.net_model.specs.declared.fault.NetFault.{NetFault}
 use Rattle.net_model.specs.declared.fault.NetError.{NetError}
@@ -13,8 +13,9 @@ Answers design (Ok network) = IsNetwork design network
 Answers design (Err (Fault fault)) = IsFirstFault design fault
 Answers design (Err Memory) = Unit {0}
 
--- A design has at most one network or at most one first fault, never both.
+-- A design has exactly one network or exactly one first fault, never both.
 pub record HasOneNetwork (design : DesignValue) : Type 0 where
+  pub some : ((network : NetworkValue) × IsNetwork design network) ⊎ ((fault : NetFault) × IsFirstFault design fault)
   pub one_network : (a b : NetworkValue) → IsNetwork design a → IsNetwork design b → a ≡ b
   pub one_fault : (a b : NetFault) → IsFirstFault design a → IsFirstFault design b → a ≡ b
   pub not_both : (network : NetworkValue) (fault : NetFault) → IsNetwork design network → IsFirstFault design fault → ⊥

@@ -1,9 +1,7 @@
-pub mod Clique
-pub mod Marks
-pub mod Values
-pub mod WellFormed
-pub mod Network
 pub mod Answers
+pub mod Clique
+pub mod Forms
+pub mod Network
+pub mod Values
 pub mod Webs
-pub mod Steps
-pub mod Joining
+pub mod WellFormed

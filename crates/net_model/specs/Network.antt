@@ -1,11 +1,12 @@
 -- The network of a design: for two points the sum of what the nets with both of them give, and for each point the fixed pins
 -- of its nets.
-use Rattle.std.specs.Prelude.{◌≡◌, ℕ, ◌+◌, ◌-◌, ◌*◌, ◌/◌, ◌^◌, ◌<◌, ◌≤◌, not, ◌&&◌, ◌||◌, ◌==◌, List, [], length, map, filter, sum_by, slice_index, slice_index_or, Option, Some, None, if◌then◌else◌, ◌+ℤ◌}
+use Rattle.std.specs.Prelude.{◌≡◌, ℕ, ◌+◌, ◌-◌, ◌*◌, ◌/◌, ◌<◌, ◌≤◌, Bool, not, ◌&&◌, ◌||◌, ◌==◌, List, [], length, map, filter, sum_by, count_by, slice_index, slice_index_or, Option, Some, None, if◌then◌else◌, ◌+ℤ◌}
 use Rattle.std.specs.List.{filter_map, flat_map, range_with_len}
 use Rattle.book_design.specs.declared.parts.Pin.{Pin}
 use Rattle.book_design.specs.Values.{NodeValue, NetValue, DesignValue}
 use Rattle.book_design.specs.Points.{is_movable, node_value_at, site_count}
 use Rattle.book_design.specs.Faults.{IsFirst}
+use Rattle.net_model.specs.declared.limits.TheConstants.{MOST_NET_NODES, MOST_TERMS, MOST_WEIGHT}
 use Rattle.net_model.specs.declared.parts.Near.{Near}
 use Rattle.net_model.specs.declared.parts.FixedPin.{FixedPin}
 use Rattle.net_model.specs.Values.{PointValue, NetworkValue}
@@ -66,6 +67,14 @@ network_of design = record { points = map (point_value design) (range_with_len 0
 abbrev pub total_weight : PointValue → ℕ
 total_weight point = sum_by (λ near. near.weight) point.near + sum_by (λ pin. pin.weight) point.pins
 
+-- Two nodes are a pair term of a net that has both, where one of them is movable and the net's share is at least 1.
+abbrev pub is_term : DesignValue → NetValue → ℕ → ℕ → Bool
+is_term design net i j = has_node net i && (has_node net j && ((is_movable (node_at design i) || is_movable (node_at design j)) && not (share net == 0)))
+
+-- how many pairs of different nodes are a term of the net: each node with those before it
+unfoldable pub terms_of : DesignValue → NetValue → ℕ
+terms_of design net = sum_by (λ i. count_by (is_term design net i) (range_with_len 0 i)) (range_with_len 0 (length design.nodes))
+
 -- how many pairs so many nodes have
 abbrev pub pairs : ℕ → ℕ
 pairs k = k * (k - 1) / 2
@@ -74,30 +83,30 @@ pairs k = k * (k - 1) / 2
 abbrev pub fixed_pins : DesignValue → NetValue → List Pin
 fixed_pins design net = filter (λ pin. not (is_movable (node_at design pin.node))) (first_pins net.pins)
 
--- how many pair terms of weight at least 1 a net has that have a movable node: its pairs without those of two fixed nodes
-abbrev pub terms_of : DesignValue → NetValue → ℕ
-terms_of design net = if share net == 0 then 0 else pairs (degree net) - pairs (length (fixed_pins design net))
+-- the pairs of a net, without those of two fixed nodes; none where its share is 0
+abbrev pub terms_in_pairs : DesignValue → NetValue → ℕ
+terms_in_pairs design net = if share net == 0 then 0 else pairs (degree net) - pairs (length (fixed_pins design net))
 
 abbrev pub terms : DesignValue → ℕ
 terms design = sum_by (terms_of design) design.nets
 
--- a net with more than 512 distinct nodes
+-- a net with too many distinct nodes
 abbrev pub IsTooWide : DesignValue → ℕ → Type 0
-IsTooWide design n = (n < length design.nets) × (512 < degree (net_at design n))
+IsTooWide design n = (n < length design.nets) × (MOST_NET_NODES < degree (net_at design n))
 
--- a point whose total weight passes 2 ^ 40
+-- a point whose total weight is too much
 abbrev pub IsHeavy : DesignValue → ℕ → Type 0
-IsHeavy design p = (p < length (point_nodes design)) × (2 ^ 40 < total_weight (point_value design p))
+IsHeavy design p = (p < length (point_nodes design)) × (MOST_WEIGHT < total_weight (point_value design p))
 
 -- The faults in their order: a net that is too wide, too many pair terms, a point that is too heavy.
 abbrev pub IsFirstFault : DesignValue → NetFault → Type 0
 IsFirstFault design (NetTooWide n) = IsFirst (IsTooWide design) n
-IsFirstFault design (TooManyEdges number) = ((n : ℕ) → IsTooWide design n → ⊥) × (number ≡ terms design) × (2 ^ 24 < number)
-IsFirstFault design (Heavy p) = ((n : ℕ) → IsTooWide design n → ⊥) × (terms design ≤ 2 ^ 24) × IsFirst (IsHeavy design) p
+IsFirstFault design (TooManyEdges number) = ((n : ℕ) → IsTooWide design n → ⊥) × (number ≡ terms design) × (MOST_TERMS < number)
+IsFirstFault design (Heavy p) = ((n : ℕ) → IsTooWide design n → ⊥) × (terms design ≤ MOST_TERMS) × IsFirst (IsHeavy design) p
 
 -- the network of a design without a fault
 pub record IsNetwork (design : DesignValue) (network : NetworkValue) : Type 0 where
   pub narrow : (n : ℕ) → IsTooWide design n → ⊥
-  pub few : terms design ≤ 2 ^ 24
+  pub few : terms design ≤ MOST_TERMS
   pub light : (p : ℕ) → IsHeavy design p → ⊥
   pub made : network ≡ network_of design

@@ -3,6 +3,7 @@ use Rattle.std.specs.Prelude.{◌≢◌, ℕ, ◌*◌, ◌^◌, ◌<◌, ◌≤�
 use Rattle.std.specs.List.{AllByRecursion}
 use Rattle.std.specs.List.Sorted.{IsStrictlyIncreasing}
 use Rattle.book_design.specs.WellFormed.{IsGoodCore}
+use Rattle.net_model.specs.declared.limits.TheConstants.{MOST_WEIGHT}
 use Rattle.net_model.specs.declared.parts.Near.{Near}
 use Rattle.net_model.specs.declared.parts.FixedPin.{FixedPin}
 use Rattle.net_model.specs.Values.{PointValue, NetworkValue, point_at}
@@ -22,12 +23,12 @@ pub record IsGoodPin (pin : FixedPin) : Type 0 where
   pub y_low : neg_ℤ (pos (3 * 10 ^ 12)) ≤ℤ pin.y
   pub y_high : pin.y ≤ℤ pos (3 * 10 ^ 12)
 
--- its neighbours stand in ascending order, its total weight is at most 2 ^ 40, and it takes at most 10 ^ 12 sites
+-- its neighbours stand in ascending order, its total weight is within the limit, and it takes at most 10 ^ 12 sites
 pub record IsGoodPoint (points p : ℕ) (point : PointValue) : Type 0 where
   pub near : AllByRecursion (IsGoodNear points p) point.near
   pub ascending : IsStrictlyIncreasing (map (λ near. near.point) point.near)
   pub pins : AllByRecursion IsGoodPin point.pins
-  pub light : total_weight point ≤ 2 ^ 40
+  pub light : total_weight point ≤ MOST_WEIGHT
   pub area : point.area ≤ 10 ^ 12
 
 pub record IsNet (network : NetworkValue) : Type 0 where

@@ -3,9 +3,9 @@
 ghost use Rattle.std.specs.Prelude.{◌≡◌, ◌-◌, ◌*◌, ◌/◌, ◌≤◌, nat_lt, [], length, vec_len};
 ghost use Rattle.std.specs.Prelude.{if◌then◌else◌, IfOk, OnOk};
 ghost use Rattle.net_model.specs.Clique.{first_pins};
-ghost use Rattle.net_model.specs.Marks.{AreMarked};
-ghost use Rattle.net_model.specs.Steps.{IsUnmarked, AreAtNodes};
+ghost use Rattle.net_model.specs.Forms.Steps.{IsUnmarked, AreMarked, AreAtNodes};
 
+use crate::limits::NET_WEIGHT;
 use book_design::Pin;
 use std::alloc::{AllocError, Global};
 
@@ -78,10 +78,10 @@ fn unmark(seen: &mut [bool], pins: &[Pin])
 /// nodes.
 pub(crate) fn share(weight: u32, degree: usize) -> u64
     requires { weight ≤ 65535 }
-    ensures { result ≡ (if nat_lt 1 degree then 840 * weight / (degree - 1) else 0) }
+    ensures { result ≡ (if nat_lt 1 degree then NET_WEIGHT * weight / (degree - 1) else 0) }
 {
     if degree > 1 {
-        840 * u64::from(weight) / (degree as u64 - 1)
+        NET_WEIGHT * u64::from(weight) / (degree as u64 - 1)
     } else {
         0
     }

@@ -5,18 +5,15 @@ ghost use Rattle.book_design.specs.Nets.{net_value};
 ghost use Rattle.book_design.specs.Points.{is_movable};
 ghost use Rattle.book_design.specs.WellFormed.{IsGoodNet};
 ghost use Rattle.net_model.specs.Clique.{first_pins};
-ghost use Rattle.net_model.specs.Network.{node_at, pairs, terms_of};
-ghost use Rattle.net_model.specs.Steps.{AreAtNodes, IsUnmarked, Counts};
+ghost use Rattle.net_model.specs.Network.{node_at, pairs, terms_in_pairs};
+ghost use Rattle.net_model.specs.Forms.Steps.{AreAtNodes, IsUnmarked, Counts};
 
 use crate::clique::{Clique, share};
 use crate::fault::{NetError, NetFault};
+use crate::limits::MOST_NET_NODES;
 use book_design::{Design, Net, Pin};
 
-/// The most distinct nodes that a net may have.
-const MOST_NODES: usize = 512;
-
-/// The number of pair terms of weight at least 1 that have a movable node, or the first net that
-/// is too wide.
+/// The number of pair terms, or the first net that is too wide.
 pub(crate) fn count_terms(design: &Design<'_>, clique: &mut Clique) -> Result<u64, NetError>
     requires unmarked { IsUnmarked (length design.now.nodes) clique.old.seen.items }
     ensures counted { Counts design.now result }
@@ -25,7 +22,7 @@ pub(crate) fn count_terms(design: &Design<'_>, clique: &mut Clique) -> Result<u6
     let mut total = 0;
     for (n, net) in design.nets().iter().enumerate() {
         clique.gather(net.pins.as_slice())?;
-        if clique.pins.len() > MOST_NODES {
+        if clique.pins.len() > MOST_NET_NODES {
             return Err(NetError::Fault(NetFault::NetTooWide(n as u32)));
         }
         total += net_terms(design, net, &clique.pins);
@@ -33,13 +30,13 @@ pub(crate) fn count_terms(design: &Design<'_>, clique: &mut Clique) -> Result<u6
     Ok(total)
 }
 
-/// How many pair terms a net with these first pins has: at most the pairs of 512 nodes.
+/// How many pair terms a net with these first pins has: at most the pairs of the most nodes.
 fn net_terms(design: &Design<'_>, net: &Net, first: &[Pin]) -> u64
     requires valid { IsGoodNet (length design.now.nodes) (net_value net.now) }
     requires first { first.now ≡ first_pins net.now.pins }
-    requires narrow { length first.now ≤ 512 }
-    ensures terms { result ≡ terms_of design.now (net_value net.now) }
-    ensures few { result ≤ 130816 }
+    requires narrow { length first.now ≤ MOST_NET_NODES }
+    ensures terms { result ≡ terms_in_pairs design.now (net_value net.now) }
+    ensures few { result ≤ pairs MOST_NET_NODES }
 {
     if share(net.weight, first.len()) == 0 {
         0
@@ -51,7 +48,7 @@ fn net_terms(design: &Design<'_>, net: &Net, first: &[Pin]) -> u64
 
 /// How many pairs so many nodes have.
 fn pair_count(nodes: usize) -> u64
-    requires { nodes ≤ 512 }
+    requires { nodes ≤ MOST_NET_NODES }
     ensures { result ≡ pairs nodes }
 {
     let nodes = nodes as u64;

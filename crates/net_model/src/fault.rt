@@ -1,13 +1,13 @@
 use std::alloc::{AllocError, AllocFailed};
 
-/// What is wrong with the nets of a design. The first of these that holds is told, at its first place.
+/// What is wrong with the nets of a design. The first of these that holds is named, at its first place.
 #[derive(Clone, Copy, Debug, PartialEq, Eq)]
 pub enum NetFault {
-    /// A net with more than 512 distinct nodes, by its number.
+    /// A net with more than 512 distinct nodes ([`MOST_NET_NODES`](crate::MOST_NET_NODES)), by its number.
     NetTooWide(u32),
-    /// More than 16,777,216 pair terms of weight at least 1 that have a movable node: how many.
+    /// More than 16,777,216 pair terms ([`MOST_TERMS`](crate::MOST_TERMS)): how many.
     TooManyEdges(u64),
-    /// A point whose total weight passes 2^40.
+    /// A point whose total weight passes 2^40 ([`MOST_WEIGHT`](crate::MOST_WEIGHT)), by its number.
     Heavy(u32),
 }
 

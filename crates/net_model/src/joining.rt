@@ -8,8 +8,8 @@ ghost use Rattle.book_design.specs.Points.{is_movable};
 ghost use Rattle.book_design.specs.WellFormed.{IsGoodPin};
 ghost use Rattle.net_model.specs.Network.{node_at, point_nodes};
 ghost use Rattle.net_model.specs.Values.{point_entry, point_values};
-ghost use Rattle.net_model.specs.Steps.{IsUnmarked, AreJoined};
-ghost use Rattle.net_model.specs.Joining.{AreDistinct, fixed_pin, paired_point, ArePaired};
+ghost use Rattle.net_model.specs.Forms.Steps.{IsUnmarked, AreJoined};
+ghost use Rattle.net_model.specs.Forms.Joining.{AreDistinct, fixed_pin, paired_point, ArePaired};
 
 use crate::clique::{Clique, share};
 use crate::parts::{FixedPin, Near};

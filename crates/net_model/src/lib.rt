@@ -11,6 +11,7 @@ mod counting;
 mod fault;
 mod joining;
 mod laws;
+mod limits;
 mod making;
 mod merging;
 mod model;
@@ -19,7 +20,8 @@ mod point;
 mod web;
 
 pub use fault::{NetError, NetFault};
-pub use laws::one_network;
+pub use laws::{one_network, terms_are_pairs};
+pub use limits::{MOST_NET_NODES, MOST_TERMS, MOST_WEIGHT, NET_WEIGHT};
 pub use making::network;
 pub use model::Network;
 pub use parts::{FixedPin, Near};

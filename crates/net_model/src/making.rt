@@ -5,24 +5,19 @@ ghost use Rattle.book_design.specs.Faults.{IsFirst};
 ghost use Rattle.book_design.specs.WellFormed.{IsDesign};
 ghost use Rattle.net_model.specs.Answers.{Answers};
 ghost use Rattle.net_model.specs.Network.{network_of, total_weight, terms, IsTooWide};
-ghost use Rattle.net_model.specs.Steps.{IsUnmarked, IsUnsummed, summed, IsHeavyPoint};
+ghost use Rattle.net_model.specs.Forms.Steps.{IsUnmarked, IsUnsummed, summed, IsHeavyPoint};
 ghost use Rattle.net_model.specs.Values.{point_entry, point_values};
 
 use crate::clique::Clique;
 use crate::counting::count_terms;
 use crate::fault::{NetError, NetFault};
 use crate::joining::joined_points;
+use crate::limits::{MOST_TERMS, MOST_WEIGHT};
 use crate::merging::merge;
 use crate::model::Network;
 use crate::point::NetPoint;
 use book_design::Design;
 use std::alloc::{AllocError, Global};
-
-/// The most pair terms that the nets of a network have.
-const MOST_TERMS: u64 = 16_777_216;
-
-/// The most that the edges of a point weigh together.
-const MOST_WEIGHT: u64 = 1 << 40;
 
 /// The network of a design, or the first fault of its nets.
 ///
@@ -48,7 +43,7 @@ fn network_of_few(
 ) -> Result<Network, NetError>
     requires unmarked { IsUnmarked (length design.now.nodes) clique.old.seen.items }
     requires narrow { (n : ℕ) → IsTooWide design.now n → ⊥ }
-    requires few { terms design.now ≤ 2 ^ 24 }
+    requires few { terms design.now ≤ MOST_TERMS }
     ensures { Answers design.now result }
 {
     let core = design.core();
@@ -85,7 +80,7 @@ fn merge_entries(points: &mut [NetPoint])
     }
 }
 
-/// The first of the points whose total weight passes 2^40.
+/// The first of the points whose total weight is too much.
 fn first_heavy(points: &[NetPoint]) -> Option<u32>
     requires few { length points.now < 2 ^ 32 }
     requires light { All (λ point. total_weight point < 2 ^ 64) (point_values points.now) }

@@ -3,7 +3,7 @@
 ghost use Rattle.std.specs.Prelude.{◌≡◌, ℕ, ◌+◌, ◌^◌, ◌<◌, ◌≤◌, sum_by, All, length, take};
 ghost use Rattle.std.specs.List.{filter_map, range_with_len};
 ghost use Rattle.std.specs.List.Sorted.{IsNonDecreasingBy};
-ghost use Rattle.net_model.specs.Steps.{as_sum};
+ghost use Rattle.net_model.specs.Forms.Steps.{as_sum};
 
 use crate::parts::Near;
 

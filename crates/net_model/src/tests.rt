@@ -256,7 +256,7 @@ fn repeated_nets(alloc: Global, count: u16) -> Result<String, AllocError> {
 }
 
 #[test]
-fn a_heavy_point_is_told(rt: HostRuntime) {
+fn a_heavy_point_is_named(rt: HostRuntime) {
     for (count, fault) in [
         (19_973, None),
         (19_974, Some(NetError::Fault(NetFault::Heavy(1)))),

@@ -3,8 +3,8 @@ use Rattle.std.proofs.Common.{◌≡◌, ℕ, zero, suc, ◌<◌, ◌≤◌, inl
 use Rattle.std.proofs.lemmas.List.{length-map, length-take-le, get_or-map, get_or-take, get_or_past}
 use Rattle.std.proofs.lemmas.Bool.{cases_lt}
 use Rattle.pad_reach.specs.Chain.{Joint, no_joint, IsNeighbour, IsAnchored, IsChain, HasChain}
-use Rattle.pad_reach.specs.Reaches.{Step, no_step, step_at, LeadsOn, Reaches, IsFirstUnanchored}
-use Rattle.pad_reach.specs.Search.{found_at, IsReached, IsFoundBy, IsSound, IsSettled}
+use Rattle.pad_reach.specs.Reaches.{Step, no_step, step_at, LeadsOn, Reaches, FallsTo, AreFalling, IsFirstUnanchored}
+use Rattle.pad_reach.specs.Forms.Search.{found_at, IsReached, IsFoundBy, IsSound, IsSettled}
 use Rattle.pad_reach.specs.declared.steps.Entry.{Entry}
 use Rattle.pad_reach.proofs.Searching.{there_if_reached}
 
@@ -90,3 +90,11 @@ module _ (web : List Joint) (found : List (Option Entry)) (s : IsSettled web fou
     all = length-map entries step_of ∙ length_entries;
     each = λ p h. let P : Step → Type 0 = λ step. LeadsOn web (map step_of entries) p step.toward step.distance in subst P (sym (step_entry p h)) (LeadsOn-found p _ _ (s.sound.each p _ (found_entry p h)));
   }
+
+-- a step that leads on falls
+falls : (web : List Joint) (steps : List Step) → length steps ≡ length web → (p : ℕ) (toward : Option ℕ) (distance : ℕ) → LeadsOn web steps p toward distance → FallsTo steps toward distance
+falls web steps all p None distance on = on.1
+falls web steps all p (Some q) distance on = (omega (arith, all, on.2), on.3)
+
+pub AreFalling-reaches : (web : List Joint) (steps : List Step) → Reaches web steps → AreFalling steps
+AreFalling-reaches web steps reaches = λ p h. falls web steps reaches.all p _ _ (reaches.each p (omega (arith, reaches.all)))

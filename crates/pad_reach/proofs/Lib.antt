@@ -1,4 +1,4 @@
 mod Chains
-mod Placing
+mod Entries
+mod LayingOut
 mod Searching
-mod Told

@@ -5,7 +5,7 @@ use Rattle.std.proofs.lemmas.List.Sums.{sum_by-set}
 use Rattle.std.proofs.lemmas.List.Folds.{sum_by-replicate}
 use Rattle.std.proofs.lemmas.Bool.{cases_eq, cases_lt}
 use Rattle.pad_reach.specs.Chain.{Joint, IsNeighbour, IsAnchored}
-use Rattle.pad_reach.specs.Search.{found_at, IsReached, unreached, IsNearer, IsFoundBy, IsSound, IsSearch}
+use Rattle.pad_reach.specs.Forms.Search.{found_at, IsReached, unreached, IsNearer, IsFoundBy, IsSound, IsSearch}
 use Rattle.pad_reach.specs.declared.steps.Entry.{Entry}
 
 -- a reached point is a point
@@ -81,7 +81,7 @@ module _ (found : List (Option Entry)) (far : ℕ) (e : Entry) (free : found_at 
         within = omega (arith, s.within);
       }
 
--- a point is done once all who tell it are reached
+-- a point is done once all its in-neighbours are reached
 pub IsSearch-next : (web : List Joint) (limit : ℕ) (found : List (Option Entry)) (queue : List ℕ) (next : ℕ) → IsSearch web limit found queue next → next < length queue → ((p : ℕ) → p < length web → IsNeighbour web p (slice_index queue next) → IsReached found p) → IsSearch web limit found queue (next + 1)
 IsSearch-next web limit found queue next s there done = record {
   sound = s.sound;
@@ -130,7 +130,7 @@ IsSearch-start web = record {
   within = omega arith;
 }
 
--- what a read of an entry tells
+-- what a read of an entry gives
 pub entry_read : (found : List (Option Entry)) (p : ℕ) (o : Option Entry) → p < length found → o ≡ get_or found p o → o ≡ found_at found p
 entry_read found p o there read = get_or_read found p o there read None
 
@@ -141,7 +141,7 @@ none_read found p (Some e) there read none = absurd cc
 pub some_read : (found : List (Option Entry)) (p : ℕ) (o : Option Entry) → p < length found → o ≡ get_or found p o → is_some o ≡ true → IsReached found p
 some_read found p o there read some = ap is_some (sym (entry_read found p o there read)) ∙ some
 
--- The point `near` of the queue is visited: of those that tell it, the first k are reached.
+-- The point `near` of the queue is visited: of its in-neighbours the first k are reached.
 pub record IsVisit (web : List Joint) (found : List (Option Entry)) (queue : List ℕ) (next near distance : ℕ) (row : List ℕ) (k : ℕ) : Type 0 where
   pub search : IsSearch web (length web) found queue next
   pub more : next < length queue
@@ -185,14 +185,14 @@ module _ (web : List Joint) (found : List (Option Entry)) (queue : List ℕ) (ne
     }
 
     pub IsVisit-add : get_or row k 0 < length web → IsNeighbour web (get_or row k 0) near → found_at found (get_or row k 0) ≡ None → IsVisit web (set found (get_or row k 0) (Some (record { toward = Some near; distance = distance }))) (queue ++ get_or row k 0 ∷ []) next near distance row (k + 1)
-    IsVisit-add there tells free =
+    IsVisit-add there leads free =
         let far = get_or row k 0 in
         let e : Entry = record { toward = Some near; distance = distance } in
         let there' : far < length found = omega (arith, there, v.search.sound.all) in
         let not_anchored : IsAnchored web far → ⊥ = λ a. (let r = v.search.anchored far there a in cc) in
         let short = v.search.sound.short near v.nearer.0 v.nearer.1 in
         record {
-          search = IsSearch-add found far e free there' web (length web) queue next v.search (not_anchored, tells, v.nearer) (omega (arith, short, v.nearer.2));
+          search = IsSearch-add found far e free there' web (length web) queue next v.search (not_anchored, leads, v.nearer) (omega (arith, short, v.nearer.2));
           more = omega (arith, v.more, length_push queue far);
           waits = get_or_append_left queue (far ∷ []) 0 next v.more ∙ v.waits;
           nearer = (v.nearer.0, found_at-kept found far e free there' near v.nearer.0 v.nearer.1, v.nearer.2);
@@ -200,18 +200,18 @@ module _ (web : List Joint) (found : List (Option Entry)) (queue : List ℕ) (ne
         }
 
     pub IsVisit-added : get_or row k 0 < length web → IsNeighbour web (get_or row k 0) near → found_at found (get_or row k 0) ≡ None → (found' : List (Option Entry)) (queue' : List ℕ) → found' ≡ set found (get_or row k 0) (Some (record { toward = Some near; distance = distance })) → queue' ≡ queue ++ get_or row k 0 ∷ [] → IsVisit web found' queue' next near distance row (k + 1)
-    IsVisit-added there tells free found' queue' found_is queue_is =
+    IsVisit-added there leads free found' queue' found_is queue_is =
         let P : List (Option Entry) → Type 0 = λ f. IsVisit web f (queue ++ get_or row k 0 ∷ []) next near distance row (k + 1) in
         let Q : List ℕ → Type 0 = λ q. IsVisit web found' q next near distance row (k + 1) in
-        subst Q (sym queue_is) (subst P (sym found_is) (IsVisit-add there tells free))
+        subst Q (sym queue_is) (subst P (sym found_is) (IsVisit-add there leads free))
 
-    -- once all who tell the point are reached, it is done
+    -- once all its in-neighbours are reached, the point is done
     pub IsVisit-end : length row ≤ k → ((p : ℕ) → p < length web → IsNeighbour web p near → (m : ℕ) × (m < length row) × (get_or row m 0 ≡ p)) → IsSearch web (length web) found queue (next + 1)
     IsVisit-end whole complete =
         let P : ℕ → Type 0 = λ p. IsReached found p in
-        IsSearch-next web (length web) found queue next v.search v.more (λ p hp tells.
+        IsSearch-next web (length web) found queue next v.search v.more (λ p hp leads.
         let Q : ℕ → Type 0 = λ q. IsNeighbour web p q in
-        let m = complete p hp (subst Q v.waits tells) in
+        let m = complete p hp (subst Q v.waits leads) in
         subst P m.2 (v.met m.0 (omega (arith, m.1))))
 
 -- The anchored points before i are reached, and no point from i on.

@@ -1,5 +1,5 @@
 -- Webs of points, and chains of neighbours that lead to an anchored point.
-use Rattle.std.specs.Prelude.{ℕ, ◌<◌, Bool, false, List, [], ◌∷◌, length, slice_index_or, All, Contains, IsTrue}
+use Rattle.std.specs.Prelude.{ℕ, Bool, false, List, [], ◌∷◌, slice_index_or, Contains, IsTrue}
 
 -- a point of a web: its neighbours by number, and whether it is anchored
 pub record Joint : Type 0 where
@@ -28,7 +28,3 @@ IsChain web (p ∷ q ∷ rest) = IsNeighbour web p q × IsChain web (q ∷ rest)
 -- a chain begins with the point
 abbrev pub HasChain : List Joint → ℕ → Type 0
 HasChain web p = (rest : List ℕ) × IsChain web (p ∷ rest)
-
--- each neighbour that is told is a point
-abbrev pub AreNeighboursPoints : List Joint → Type 0
-AreNeighboursPoints web = All (λ joint. All (λ q. q < length web) joint.near) web

@@ -1,5 +1,4 @@
 pub mod Chain
+pub mod Forms
 pub mod Reaches
 pub mod Refusal
-pub mod Search
-pub mod Tellers

@@ -23,6 +23,15 @@ pub record Reaches (web : List Joint) (steps : List Step) : Type 0 where
   pub all : length steps ≡ length web
   pub each : (p : ℕ) → p < length web → LeadsOn web steps p (step_at steps p).toward (step_at steps p).distance
 
+-- What a step says without its web: none goes on from the distance 0, and any other goes on to a point whose distance is one less.
+abbrev pub FallsTo : List Step → Option ℕ → ℕ → Type 0
+FallsTo steps None distance = distance ≡ 0
+FallsTo steps (Some q) distance = (q < length steps) × ((step_at steps q).distance + 1 ≡ distance)
+
+-- each step falls
+abbrev pub AreFalling : List Step → Type 0
+AreFalling steps = (p : ℕ) → p < length steps → FallsTo steps (step_at steps p).toward (step_at steps p).distance
+
 -- no chain leads from the point, and one leads from each point before it
 pub record IsFirstUnanchored (web : List Joint) (p : ℕ) : Type 0 where
   pub there : p < length web

@@ -7,17 +7,19 @@
 //!
 //! The search goes breadth-first from the anchored points over the entries reversed, which are sorted once by counting.
 //!
-//! The contract: `reach` meets `Reaches`, and its refusal is `IsFirstUnanchored`.
+//! The contract: `reach` meets `Reaches`, and its refusal is `IsFirstUnanchored`. The law `reach_leads` makes chains of steps.
 #![tactic(auto)]
 
+mod in_neighbours;
+mod laws;
 mod search;
 mod steps;
-mod tellers;
 mod web;
 
+pub use laws::reach_leads;
 pub use search::{ReachError, reach};
 pub use steps::Reach;
-pub use web::Web;
+pub use web::{MOST_POINTS, Web};
 
 #[cfg(test)]
 mod tests;

@@ -3,11 +3,11 @@ ghost use Rattle.pad_reach.specs.Chain.{HasChain};
 ghost use Rattle.pad_reach.specs.Reaches.{Reaches};
 ghost use Rattle.pad_reach.specs.Refusal.{IsRefusal};
 ghost use Rattle.pad_reach.specs.declared.search.ReachError.TheVariants.{Memory};
-ghost use Rattle.pad_reach.specs.Search.{IsSettled, IsSearch};
+ghost use Rattle.pad_reach.specs.Forms.Search.{IsSettled, IsSearch};
 
+use crate::in_neighbours::InNeighbours;
 use crate::steps::{Entry, Reach};
-use crate::tellers::Tellers;
-use crate::web::Web;
+use crate::web::{MOST_POINTS, Web};
 use std::alloc::{AllocError, AllocFailed, Global};
 
 /// Why there is no step for each point.
@@ -57,13 +57,13 @@ pub fn reach<W: Web>(alloc: Global, web: &W) -> Result<Reach, ReachError>
 fn spread<W: Web>(alloc: Global, web: &W) -> Result<Vec<Option<Entry>>, AllocError>
     ensures { IfOk result (λ found. IsSettled (W.joints web.now) found.items) }
 {
-    let tellers = Tellers::new(alloc, web)?;
+    let in_neighbours = InNeighbours::new(alloc, web)?;
     let mut search = Search::new(alloc, web)?;
     let mut next = 0;
     while next < search.queue.len() {
         let near = search.queue[next];
         let distance = search.found[near as usize].unwrap().distance + 1;
-        for far in tellers.of(near as usize) {
+        for far in in_neighbours.of(near as usize) {
             if search.found[*far as usize].is_none() {
                 search.add(
                     *far,
@@ -96,7 +96,7 @@ impl Search {
             search.found.items
             search.queue.items
             0) }
-        ensures few { length (W.joints web.now) ≤ 2097152 }
+        ensures few { length (W.joints web.now) ≤ MOST_POINTS }
     {
         let found = vec![in alloc; None; web.points()]?;
         let queue = Vec::with_capacity(alloc, web.points())?;

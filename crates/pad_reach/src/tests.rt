@@ -124,7 +124,7 @@ fn chains_lead_to_anchored_points(rt: HostRuntime) -> Result<(), Fail> {
 }
 
 #[test]
-fn a_point_without_a_chain_is_told(rt: HostRuntime) -> Result<(), Fail> {
+fn a_point_without_a_chain_is_named(rt: HostRuntime) -> Result<(), Fail> {
     let alloc = rt.alloc();
     for (near, anchored, want) in [
         // a row without an anchored point

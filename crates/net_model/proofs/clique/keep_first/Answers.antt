@@ -1,6 +1,6 @@
 use Rattle.std.proofs.Common.{◌+◌, ◌<◌, ◌∙◌, sym, ap, subst, arith, true, false, Bool, List, length, get_or, take, pos, append-nil}
 use Rattle.book_design.specs.declared.parts.Pin.{Pin}
-use Rattle.net_model.specs.Marks.{AreMarked}
+use Rattle.net_model.specs.Forms.Steps.{AreMarked}
 use Rattle.net_model.proofs.CliqueMarks.{first_marked, marked_same, marked_more}
 use Rattle.net_model.proofs.clique.keep_first.Goals as goal
 use Rattle.net_model.proofs.clique.keep_first.Goals.{then-not-seen-node+in_ok-push, else-not-seen-node}

@@ -1,6 +1,6 @@
 use Rattle.std.proofs.Common.{◌≡◌, take}
 use Rattle.net_model.specs.Clique.{first_pins}
-use Rattle.net_model.specs.Marks.{AreMarked}
+use Rattle.net_model.specs.Forms.Steps.{AreMarked}
 use Rattle.net_model.proofs.clique.keep_first.Given as goal
 
 abbrev pub invariant-loop-pin : goal.invariant-loop-pin

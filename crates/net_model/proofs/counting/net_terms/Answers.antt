@@ -1,7 +1,7 @@
 use Rattle.std.proofs.Common.{◌≤◌, sym, subst, arith, List, length}
 use Rattle.book_design.specs.declared.parts.Pin.{Pin}
 use Rattle.book_design.specs.Nets.{net_value}
-use Rattle.net_model.specs.Steps.{AreAtNodes}
+use Rattle.net_model.specs.Forms.Steps.{AreAtNodes}
 use Rattle.net_model.proofs.CliqueNodes.{first_there}
 use Rattle.net_model.proofs.CountingTerms.{net_there, few_fixed, fewer_pairs}
 use Rattle.net_model.proofs.counting.net_terms.Goals as goal

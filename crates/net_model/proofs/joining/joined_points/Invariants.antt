@@ -1,7 +1,7 @@
 use Rattle.std.proofs.Common.{take, length}
 use Rattle.book_design.specs.Nets.{net_values}
 use Rattle.net_model.specs.Values.{point_values}
-use Rattle.net_model.specs.Steps.{IsUnmarked, AreJoined}
+use Rattle.net_model.specs.Forms.Steps.{IsUnmarked, AreJoined}
 use Rattle.net_model.proofs.joining.joined_points.Given as goal
 
 abbrev pub invariant-loop-net : goal.invariant-loop-net

@@ -1,7 +1,7 @@
 use Rattle.std.proofs.Common.{◌+◌, List, length, take, ap, sym, subst, arith}
 use Rattle.book_design.specs.WellFormed.{IsGoodPin}
 use Rattle.net_model.specs.Values.{PointValue, point_values}
-use Rattle.net_model.specs.Joining.{pin_at}
+use Rattle.net_model.proofs.CliqueNodes.{pin_at}
 use Rattle.net_model.proofs.JoiningPins.{has_no_point}
 use Rattle.net_model.proofs.JoiningNets.{ArePairedAt, has_point, point_inside, paired_first, paired_fixed, paired_entry, paired_last}
 use Rattle.net_model.proofs.joining.pair_members.Goals as goal

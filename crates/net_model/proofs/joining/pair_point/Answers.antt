@@ -1,6 +1,6 @@
 use Rattle.std.proofs.Common.{◌∙◌, ap}
 use Rattle.net_model.specs.Values.{point_entry}
-use Rattle.net_model.specs.Joining.{pin_at}
+use Rattle.net_model.proofs.CliqueNodes.{pin_at}
 use Rattle.net_model.proofs.JoiningPins.{paired_none, paired_more, paired_self, paired_all}
 use Rattle.net_model.proofs.joining.pair_point.Goals as goal
 use Rattle.net_model.proofs.joining.pair_point.Goals.{then-pin-node+in_ok-pair_with, else-pin-node}

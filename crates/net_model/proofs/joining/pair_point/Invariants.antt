@@ -1,6 +1,6 @@
 use Rattle.std.proofs.Common.{◌≡◌, take}
 use Rattle.net_model.specs.Values.{point_entry}
-use Rattle.net_model.specs.Joining.{paired_point}
+use Rattle.net_model.specs.Forms.Joining.{paired_point}
 use Rattle.net_model.proofs.joining.pair_point.Given as goal
 
 abbrev pub invariant-loop-pin : goal.invariant-loop-pin

@@ -1,5 +1,5 @@
 use Rattle.std.proofs.Common.{ℕ, ◌<◌}
-use Rattle.net_model.specs.Steps.{IsHeavyPoint}
+use Rattle.net_model.specs.Forms.Steps.{IsHeavyPoint}
 use Rattle.net_model.specs.Values.{point_values}
 use Rattle.net_model.proofs.making.first_heavy.Given as goal
 

@@ -2,7 +2,7 @@ use Rattle.std.proofs.Common.{◌≡◌, length, get_or, ap, arith}
 use Rattle.std.proofs.lemmas.List.{length-map}
 use Rattle.net_model.specs.declared.point.NetPoint.{NetPoint}
 use Rattle.net_model.specs.Values.{point_entry, point_values}
-use Rattle.net_model.specs.Steps.{IsUnsummed, summed}
+use Rattle.net_model.specs.Forms.Steps.{IsUnsummed, summed}
 use Rattle.net_model.proofs.MakingPoints.{AreSummed, unsummed_at, all_there, all_positive, summed_more}
 use Rattle.net_model.proofs.making.merge_entries.Goals as goal
 

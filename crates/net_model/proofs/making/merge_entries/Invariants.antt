@@ -1,5 +1,5 @@
 use Rattle.std.proofs.Common.{◌≡◌, ◌++◌, length, map, take, drop}
-use Rattle.net_model.specs.Steps.{summed}
+use Rattle.net_model.specs.Forms.Steps.{summed}
 use Rattle.net_model.specs.Values.{point_values}
 use Rattle.net_model.proofs.making.merge_entries.Given as goal
 

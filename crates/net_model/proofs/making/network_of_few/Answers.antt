@@ -1,6 +1,6 @@
 use Rattle.std.proofs.Common.{ℕ, List, ◌∙◌, ap, subst}
 use Rattle.net_model.specs.declared.point.NetPoint.{NetPoint}
-use Rattle.net_model.specs.Steps.{IsHeavyPoint}
+use Rattle.net_model.specs.Forms.Steps.{IsHeavyPoint}
 use Rattle.net_model.specs.Values.{point_values}
 use Rattle.net_model.proofs.MakingNetwork.{points_few, points_light, first_heavy_of, none_heavy, network_is, network_net}
 use Rattle.net_model.proofs.making.network_of_few.Goals as goal

@@ -1,6 +1,6 @@
 use Rattle.std.proofs.Common.{◌+◌, ◌<◌, ◌≤◌, ◌∙◌, ap, take, arith, rules}
 use Rattle.std.specs.List.{filter_map, range_with_len}
-use Rattle.net_model.specs.Steps.{as_sum}
+use Rattle.net_model.specs.Forms.Steps.{as_sum}
 use Rattle.std.proofs.lemmas.List.Sorted.{IsNonDecreasingBy-from_sort_by_key, All-permutation, sum_by-IsPermutation}
 use Rattle.std.proofs.lemmas.List.{with_items_is}
 use Rattle.std.proofs.lemmas.List.Elements.{All-same}

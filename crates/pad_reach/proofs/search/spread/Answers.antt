@@ -1,8 +1,8 @@
 use Rattle.std.proofs.Common.{◌≡◌, ℕ, ◌+◌, ◌<◌, List, length, get_or, Option, Some, sym, ap, ◌∙◌, subst, arith}
-use Rattle.pad_reach.specs.Search.{found_at}
+use Rattle.pad_reach.specs.Forms.Search.{found_at}
 use Rattle.pad_reach.specs.declared.steps.Entry.{Entry}
 use Rattle.pad_reach.specs.declared.search.Search.{Search}
-use Rattle.pad_reach.proofs.Placing.{row_sound, row_complete}
+use Rattle.pad_reach.proofs.LayingOut.{row_sound, row_complete}
 use Rattle.pad_reach.proofs.Searching.{next_there, visited_there, entry_read, none_read, some_read, IsVisit, IsVisit-start, IsVisit-skip, IsVisit-added, IsVisit-end}
 use Rattle.pad_reach.proofs.search.spread.Goals as goal
 use Rattle.pad_reach.proofs.search.spread.Goals.{then-is_none+in_ok-add, else-is_none}
@@ -22,16 +22,16 @@ overflow_add-distance g c =
 pub of-far-items-requires-clause-there : goal.of-far-items-requires-clause-there
 of-far-items-requires-clause-there g c =
     let there = next_there _ _ _ _ _ _ c.loop-next.invariant (omega arith) c.index-near.ensures in
-    omega (arith, there, c.in_ok-tellers.ensures.all)
+    omega (arith, there, c.in_ok-in_neighbours.ensures.all)
 
 pub of-far-items-requires-clause-ordered : goal.of-far-items-requires-clause-ordered
 of-far-items-requires-clause-ordered g c =
-    c.in_ok-tellers.ensures.ordered _ (next_there _ _ _ _ _ _ c.loop-next.invariant (omega arith) c.index-near.ensures)
+    c.in_ok-in_neighbours.ensures.ordered _ (next_there _ _ _ _ _ _ c.loop-next.invariant (omega arith) c.index-near.ensures)
 
 pub of-far-items-requires-clause-within : goal.of-far-items-requires-clause-within
 of-far-items-requires-clause-within g c =
     let there = next_there _ _ _ _ _ _ c.loop-next.invariant (omega arith) c.index-near.ensures in
-    omega (arith, c.in_ok-tellers.ensures.within _ there)
+    omega (arith, c.in_ok-in_neighbours.ensures.within _ there)
 
 pub loop-far-init : goal.loop-far-init
 loop-far-init g c =
@@ -43,19 +43,19 @@ loop-far-init g c =
 pub index-requires-in-loop-far : goal.index-requires-in-loop-far
 index-requires-in-loop-far g c =
     let there = visited_there _ _ _ _ _ _ _ _ c.loop-far.invariant in
-    let far = row_sound _ _ _ c.in_ok-tellers.ensures _ there _ c.of-far-items.ensures c.loop-far.far-index (omega arith) in
+    let far = row_sound _ _ _ c.in_ok-in_neighbours.ensures _ there _ c.of-far-items.ensures c.loop-far.far-index (omega arith) in
     omega (arith, far.0, c.loop-far.invariant.search.sound.all)
 
 pub add-requires : goal.add-requires
 add-requires g c =
     let there = visited_there _ _ _ _ _ _ _ _ c.loop-far.invariant in
-    let far = row_sound _ _ _ c.in_ok-tellers.ensures _ there _ c.of-far-items.ensures c.loop-far.far-index (omega arith) in
+    let far = row_sound _ _ _ c.in_ok-in_neighbours.ensures _ there _ c.of-far-items.ensures c.loop-far.far-index (omega arith) in
     omega (arith, far.0, c.loop-far.invariant.search.sound.all)
 
 pub loop-far-preserved : goal.loop-far-preserved
 loop-far-preserved g c =
     let there = visited_there _ _ _ _ _ _ _ _ c.loop-far.invariant in
-    let far = row_sound _ _ _ c.in_ok-tellers.ensures _ there _ c.of-far-items.ensures c.loop-far.far-index (omega arith) in
+    let far = row_sound _ _ _ c.in_ok-in_neighbours.ensures _ there _ c.of-far-items.ensures c.loop-far.far-index (omega arith) in
     let inside : get_or c.of-far-items.result.now c.loop-far.far-index 0 < length c.loop-far.search.found.items = omega (arith, far.0, c.loop-far.invariant.search.sound.all) in
     let found_of : Search → List (Option Entry) = λ s. s.found.items in
     let queue_of : Search → List ℕ = λ s. s.queue.items in
@@ -70,4 +70,4 @@ loop-far-preserved g c =
 pub loop-next-preserved : goal.loop-next-preserved
 loop-next-preserved g c =
     let there = visited_there _ _ _ _ _ _ _ _ c.loop-far.invariant in
-    IsVisit-end _ _ _ _ _ _ _ _ c.loop-far.invariant (omega arith) (row_complete _ _ _ c.in_ok-tellers.ensures _ there _ c.of-far-items.ensures)
+    IsVisit-end _ _ _ _ _ _ _ _ c.loop-far.invariant (omega arith) (row_complete _ _ _ c.in_ok-in_neighbours.ensures _ there _ c.of-far-items.ensures)

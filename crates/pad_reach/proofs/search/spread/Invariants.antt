@@ -1,5 +1,5 @@
 use Rattle.std.proofs.Common.{◌-◌, length}
-use Rattle.pad_reach.specs.Search.{IsSearch}
+use Rattle.pad_reach.specs.Forms.Search.{IsSearch}
 use Rattle.pad_reach.proofs.Searching.{IsVisit}
 use Rattle.pad_reach.proofs.search.spread.Given as goal
 

@@ -2,8 +2,8 @@ use Rattle.std.proofs.Common.{arith, ◌≡◌, ◌∙◌, sym, subst, List, len
 use Rattle.std.proofs.lemmas.List.{take_at}
 use Rattle.book_design.specs.declared.parts.Pin.{Pin}
 use Rattle.net_model.specs.Clique.{first_pins}
-use Rattle.net_model.specs.Marks.{AreMarked}
-use Rattle.net_model.specs.Steps.{AreAtNodes}
+use Rattle.net_model.specs.Forms.Steps.{AreMarked}
+use Rattle.net_model.specs.Forms.Steps.{AreAtNodes}
 use Rattle.net_model.proofs.CliqueNodes.{joined_first, first_there}
 use Rattle.net_model.proofs.clique.Clique.gather.Goals as goal
 

@@ -1,5 +1,0 @@
-use Rattle.pad_reach.proofs.Told.{IsSummed}
-use Rattle.pad_reach.proofs.tellers.add_up.Given as goal
-
-abbrev pub invariant-loop-count : goal.invariant-loop-count
-invariant-loop-count l = IsSummed l.fn.counts l.counts l.count-index l.sum

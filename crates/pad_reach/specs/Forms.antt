@@ -1,0 +1,2 @@
+pub mod InNeighbours
+pub mod Search
