@@ -4,7 +4,7 @@ ghost use Rattle.std.specs.Prelude.{◌≡◌, ◌+◌, ◌-◌, ◌<◌, ◌≤
 ghost use Rattle.std.specs.Thread.{IsSync};
 ghost use Rattle.relax_system.specs.Sides.{starts_of, IsExtremal};
 ghost use Rattle.relax_table.specs.Seats.{IsSeatOf};
-ghost use Rattle.relax_crew.specs.Crew.{AllSeated, AllExtremal, IsCrewSize};
+ghost use Rattle.relax_crew.specs.Forms.Crew.{AllSeated, AllExtremal, IsCrewSize};
 
 use crate::bench::Bench;
 use crate::range::{MOST_SEATS, range_of};

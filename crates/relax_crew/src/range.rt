@@ -1,7 +1,7 @@
 //! Which points a seat begins with.
 
 ghost use Rattle.std.specs.Prelude.{◌≡◌, ◌+◌, ◌*◌, ◌/◌, ◌<◌, ◌≤◌};
-ghost use Rattle.relax_crew.specs.Crew.{first_point};
+ghost use Rattle.relax_crew.specs.Forms.Crew.{first_point};
 
 /// How many seats a crew may have.
 pub const MOST_SEATS: usize = 64;

@@ -27,7 +27,7 @@ pub use plain::{greatest_plain, least_plain};
 pub use points::{Near, NearList, Point, Points};
 pub use side::Side;
 pub use system::System;
-pub use valid::is_valid;
+pub use valid::{MOST_COORDINATE, MOST_POINTS, MOST_WEIGHT, is_valid};
 pub use values::Values;
 
 #[cfg(test)]

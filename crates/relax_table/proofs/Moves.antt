@@ -21,7 +21,7 @@ use Rattle.relax_table.specs.Ways.{further_of, IsBound}
 use Rattle.relax_table.specs.Step.{word_after}
 use Rattle.relax_table.specs.Step.Kind.{Load, Renew}
 use Rattle.relax_table.specs.Seats.{IsSound}
-use Rattle.relax_table.specs.Rule.{state_of, all_moves, IsInStep, Keeps, stepped_view, Told, Learned, sprout, joined, gone, opened}
+use Rattle.relax_table.specs.Forms.Rule.{state_of, all_moves, IsInStep, Keeps, stepped_view, Told, Learned, sprout, joined, gone, opened}
 use Rattle.relax_table.proofs.Numbers.{further-first, further-within, further-low, further-high, counted_apart}
 use Rattle.relax_table.proofs.Vectors.{AllBefore-refl, at_furthest, length-furthest}
 use Rattle.relax_table.proofs.Sounds.{sound_of, IsMove, keeps_moved, moved_in_step, all_moves-set}

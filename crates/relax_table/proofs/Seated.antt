@@ -14,7 +14,7 @@ use Rattle.relax_table.specs.Ways.{is_past, one_if, apart, distance, IsBound, Is
 use Rattle.relax_table.specs.Step.{word_after}
 use Rattle.relax_table.specs.Step.Kind.{Load, Renew}
 use Rattle.relax_table.specs.Seats.{SeatState, IsSound, Advances}
-use Rattle.relax_table.specs.Rule.{state_of, Told, IsHeld, sprout, joined, furthest, Learned}
+use Rattle.relax_table.specs.Forms.Rule.{state_of, Told, IsHeld, sprout, joined, furthest, Learned}
 use Rattle.relax_table.proofs.Numbers.{further-first, further-second, apart-within}
 use Rattle.relax_table.proofs.Distances.{distance-wide}
 use Rattle.relax_table.proofs.Vectors.{AllBefore-refl, AllBefore-trans, AllBefore-set, mean_of-set, at_furthest}

@@ -16,7 +16,7 @@ use Rattle.relax_system.proofs.Climbing.{InBoxes-set}
 use Rattle.relax_table.specs.declared.rule.View.{View}
 use Rattle.relax_table.specs.Ways.{apart, distance, IsBound}
 use Rattle.relax_table.specs.Seats.{IsSound}
-use Rattle.relax_table.specs.Rule.{state_of, all_moves, IsInStep, Keeps}
+use Rattle.relax_table.specs.Forms.Rule.{state_of, all_moves, IsInStep, Keeps}
 use Rattle.relax_table.proofs.Distances.{distance-add, distance-grows, distance_to_set}
 use Rattle.relax_table.proofs.Vectors.{AllBefore-trans, AllBefore-set, AllBefore-set_first, AllBefore-set_both, AllBefore-refl}
 

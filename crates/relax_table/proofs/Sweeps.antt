@@ -57,19 +57,6 @@ pub record IsLooked (side : Side) (near : List Near) (t : TableState) (old new :
   pub went : WentOn side moved old.seen new.seen
   pub steps : now ≡ first + n
 
-pub looked_none : (side : Side) (near : List Near) (t : TableState) (s : SeatState) (steps : ℕ) → IsSeatOf t s → IsSound side s → IsLooked side near t s s steps steps 0 false
-looked_none side near t s steps own sound = record {
-  own = own;
-  advances = advances_none side s sound;
-  loads = omega arith;
-  fetches = refl;
-  moves = refl;
-  others = λ j h. refl;
-  all = refl;
-  went = went_none side s.seen;
-  steps = omega arith;
-}
-
 pub looked_more : (side : Side) (near : List Near) (t : TableState) (old mid new : SeatState) (steps steps' steps'' n j x y : ℕ) (moved b : Bool) (d : Near) → IsLooked side near t old mid steps steps' n moved → n < length near → j ≡ (slice_index_or near n d).point → j < length mid.seen
     → IsSeatOf t new → Advances side mid new → new.seen ≡ set mid.seen j x → (new.loads ≡ mid.loads + 1) × (new.fetches ≡ mid.fetches) × (new.moves ≡ mid.moves) → steps'' ≡ steps' + 1 → Before side (slice_index mid.seen j) x
     → y ≡ slice_index mid.seen j → MatchBool b (x ≢ y) (x ≡ y) → IsLooked side near t old new steps steps'' (n + 1) (moved || b)
@@ -127,17 +114,6 @@ pub record IsSweptTo (side : Side) (t : TableState) (from i : ℕ) (old new : Se
   pub went : WentOn side moved old.seen new.seen
   pub quiet : moved ≡ false → IsQuietIn side t.system from i new.seen
 
-pub swept_none : (side : Side) (t : TableState) (from : ℕ) (s : SeatState) (first : ℕ) → IsSeatOf t s → IsSound side s → IsSweptTo side t from from s s first first false
-swept_none side t from s first own sound = record {
-  own = own;
-  advances = advances_none side s sound;
-  counted = refl;
-  cost = omega (arith, sweep_steps-none t.system from);
-  all = refl;
-  went = went_none side s.seen;
-  quiet = λ none i low high. absurd (omega arith);
-}
-
 none_of : (a b : Bool) → (a || b) ≡ false → (a ≡ false) × (b ≡ false)
 none_of true b e = (e, absurd (false≢true (sym e)))
 none_of false b e = (refl, e)
@@ -165,11 +141,6 @@ swept_more side t from i old mid new first now now' moved b h order there own ad
           (λ other. rw (still side b mid.seen new.seen both.1 went) (h.quiet both.0 k low (omega arith)))
           (cases_eq k i);
     }
-
--- a sweep's end, as its contract says it
-pub swept_end : (side : Side) (t : TableState) (from to : ℕ) (old new : SeatState) (first now : ℕ) (moved : Bool) → IsSweptTo side t from to old new first now moved → MatchBool moved (1 ≤ distance side old.seen new.seen) (IsQuietIn side t.system from to new.seen)
-swept_end side t from to old new first now true h = h.went
-swept_end side t from to old new first now false h = h.quiet refl
 
 -- what is known after any number of sweeps that moved
 pub record IsSettling (side : Side) (t : TableState) (cost : ℕ) (old new : SeatState) (first now : ℕ) : Type 0 where

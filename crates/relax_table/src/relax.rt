@@ -8,7 +8,7 @@ ghost use Rattle.relax_table.specs.Step.Kind.{Load, Renew};
 ghost use Rattle.relax_table.specs.Seats.{IsSeatOf, Advances, IsNoNeighbour};
 ghost use Rattle.relax_table.specs.Ways.{distance, is_past, one_if};
 ghost use Rattle.std.specs.Prelude.{[], false, ◌||◌};
-ghost use Rattle.relax_table.specs.Rule.{Told};
+ghost use Rattle.relax_table.specs.Forms.Rule.{Told};
 
 use crate::direction::{Direction, further, mean, passes};
 use crate::rule::{Looks, Renews, View};

@@ -35,7 +35,7 @@ pub struct SideRule<D> {
 }
 
 impl<S, D: Direction> TableRule<S, View, Origin> for SideRule<D> {
-    ghost use Rattle.relax_table.specs.Rule.{Keeps, opened};
+    ghost use Rattle.relax_table.specs.Forms.Rule.{Keeps, opened};
 
     ghost holds = { λ k s. Keeps D.side k.system.value k.start.value.items s.words s.views };
 
@@ -50,7 +50,7 @@ pub(crate) struct Looks<D> {
 impl<S, D: Direction> Play<S, View> for Looks<D> {
     ghost use Rattle.std.specs.Prelude.{◌≡◌};
     ghost use Rattle.relax_table.specs.Step.Kind.{Load};
-    ghost use Rattle.relax_table.specs.Rule.{Told};
+    ghost use Rattle.relax_table.specs.Forms.Rule.{Told};
 
     ghost then = { λ s v x w. (w.1 ≡ v.1) × Told D.side Load s.word v.0 x w.0 };
 }
@@ -63,7 +63,7 @@ pub(crate) struct Renews<D> {
 impl<S, D: Direction> Play<S, View> for Renews<D> {
     ghost use Rattle.std.specs.Prelude.{◌≡◌};
     ghost use Rattle.relax_table.specs.Step.Kind.{Renew};
-    ghost use Rattle.relax_table.specs.Rule.{Told};
+    ghost use Rattle.relax_table.specs.Forms.Rule.{Told};
 
     ghost then = { λ s v x w. (w.1 ≡ v.1) × Told D.side Renew s.word v.0 x w.0 };
 }
@@ -75,7 +75,7 @@ pub(crate) struct Learns<D> {
 
 impl<S, D: Direction> Play<S, View> for Learns<D> {
     ghost use Rattle.std.specs.Prelude.{◌≡◌};
-    ghost use Rattle.relax_table.specs.Rule.{Learned};
+    ghost use Rattle.relax_table.specs.Forms.Rule.{Learned};
 
     ghost then = { λ s v x w. (w.1 ≡ v.1) × Learned D.side v.0 w.0 };
 }
@@ -86,7 +86,7 @@ pub(crate) struct Halves<D> {
 }
 
 impl<D: Direction> Split<View> for Halves<D> {
-    ghost use Rattle.relax_table.specs.Rule.{sprout};
+    ghost use Rattle.relax_table.specs.Forms.Rule.{sprout};
 
     ghost left = { λ v. v };
 
@@ -94,7 +94,7 @@ impl<D: Direction> Split<View> for Halves<D> {
 }
 
 impl<D: Direction> Join<View> for Halves<D> {
-    ghost use Rattle.relax_table.specs.Rule.{joined, gone};
+    ghost use Rattle.relax_table.specs.Forms.Rule.{joined, gone};
 
     ghost both = { joined D.side };
 

@@ -26,7 +26,7 @@ pub struct SideSeat<D: Direction> {
 impl<D: Direction> Model for SideSeat<D> {
     ghost use Rattle.std.specs.Prelude.{◌≡◌, []};
     ghost use Rattle.relax_table.specs.Seats.{SeatState};
-    ghost use Rattle.relax_table.specs.Rule.{state_of, IsHeld};
+    ghost use Rattle.relax_table.specs.Forms.Rule.{state_of, IsHeld};
 
     ghost Value = { SeatState };
 

@@ -6,7 +6,7 @@ ghost use Rattle.relax_system.specs.Means.{InBoxes};
 ghost use Rattle.relax_system.specs.System.{IsValid};
 ghost use Rattle.relax_table.specs.Ways.{further_of, IsBound};
 ghost use Rattle.relax_table.specs.Seats.{SeatState, IsSeatOf, IsSound, Advances};
-ghost use Rattle.relax_table.specs.Rule.{furthest};
+ghost use Rattle.relax_table.specs.Forms.Rule.{furthest};
 ghost use Rattle.std.specs.Prelude.{ℕ, List};
 
 use crate::direction::{Direction, further};

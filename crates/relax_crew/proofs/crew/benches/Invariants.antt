@@ -1,6 +1,6 @@
 use Rattle.std.proofs.Common.{◌≡◌, ◌+◌, vec_len}
 use Rattle.relax_table.specs.Seats.{IsSeatOf}
-use Rattle.relax_crew.specs.Crew.{AllSeated}
+use Rattle.relax_crew.specs.Forms.Crew.{AllSeated}
 use Rattle.relax_crew.proofs.crew.benches.Given as goal
 
 abbrev pub invariant-loop : goal.invariant-loop

@@ -1,7 +1,7 @@
 use Rattle.std.proofs.Common.{vec_len}
 use Rattle.relax_system.specs.Sides.{IsExtremal}
 use Rattle.relax_table.specs.Seats.{IsSeatOf}
-use Rattle.relax_crew.specs.Crew.{AllSeated}
+use Rattle.relax_crew.specs.Forms.Crew.{AllSeated}
 use Rattle.relax_crew.proofs.crew.joined.Given as goal
 
 abbrev pub invariant-more : goal.invariant-more

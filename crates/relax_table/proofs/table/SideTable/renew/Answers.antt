@@ -5,7 +5,7 @@ use Rattle.relax_table.specs.Ways.{is_past, one_if}
 use Rattle.relax_table.specs.Step.{word_after}
 use Rattle.relax_table.specs.Step.Kind.{Renew}
 use Rattle.relax_table.specs.Seats.{TableState, SeatState, Advances}
-use Rattle.relax_table.specs.Rule.{state_of}
+use Rattle.relax_table.specs.Forms.Rule.{state_of}
 use Rattle.relax_table.proofs.Numbers.{one_if-le}
 use Rattle.relax_table.proofs.Seated.{held_renewed, advances_renewed, told_quiet, moves-few}
 use Rattle.relax_table.proofs.table.SideTable.renew.Goals as goal
