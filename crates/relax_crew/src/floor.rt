@@ -5,7 +5,7 @@ ghost use Rattle.relax_system.specs.declared.side.Side.TheVariants.{Floor};
 ghost use Rattle.relax_system.specs.Sides.{starts_of};
 ghost use Rattle.relax_system.specs.Extremal.{IsLeast};
 ghost use Rattle.relax_table.specs.Floor.{rise};
-ghost use Rattle.relax_crew.specs.Forms.Crew.{IsCrewSize};
+ghost use Rattle.relax_crew.specs.Crew.{IsCrewSize};
 
 use crate::crew::solve;
 use book_outer::Gate;

@@ -1,3 +1,5 @@
+//! Valid systems, their means, and tests of a vector.
+
 ghost use Rattle.std.specs.Prelude.{◌≡◌, ℕ, ◌<◌, ◌≤◌, ◌↔◌, length, IsTrue};
 ghost use Rattle.relax_system.specs.System.{IsValid, IsValidPoint, point_at};
 ghost use Rattle.relax_system.specs.Means.{InBoxes, IsPreFixed, IsPostFixed, floor_mean, ceil_mean};

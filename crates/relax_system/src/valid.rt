@@ -1,3 +1,5 @@
+//! The rule of a valid system, and its limits.
+
 ghost use Rattle.std.specs.Prelude.{◌≡◌, ℕ, ◌*◌, ◌<◌, ◌≤◌, ◌↔◌, length, All, IsTrue};
 ghost use Rattle.relax_system.specs.System.{IsValid, IsValidPoint, IsValidNear, point_at, total_weight};
 

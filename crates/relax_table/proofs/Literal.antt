@@ -10,18 +10,18 @@ use Rattle.relax_system.specs.Sides.{AllBefore}
 use Rattle.relax_system.specs.System.{point_at, IsValid}
 use Rattle.relax_system.proofs.Extremes.{extremal_there}
 use Rattle.relax_system.proofs.Sided.{IsLeast-from_extremal, IsGreatest-from_extremal}
-use Rattle.relax_table.specs.Ways.{apart, distance, IsBound, IsQuietIn}
+use Rattle.relax_table.specs.Ways.{apart, distance, IsQuietVector, IsQuietIn}
 use Rattle.relax_table.proofs.Numbers.{apart-within}
 use Rattle.relax_table.proofs.Distances.{distance-wide}
 use Rattle.relax_table.specs.Seats.{SeatState, IsSound, Advances}
 use Rattle.relax_table.specs.Floor.{IsFloorStart, IsBelowLeast, Rises}
 use Rattle.relax_table.specs.Ceil.{IsCeilStart, IsAboveGreatest, Falls}
 
-pub pre_fixed_bound : {points : List Point} {u : List ℕ} → IsLeast points u → IsBound Floor points u
-pre_fixed_bound h = record { in_boxes = h.in_boxes; quiet = h.pre_fixed }
+pub pre_fixed_vector : {points : List Point} {u : List ℕ} → IsLeast points u → IsQuietVector Floor points u
+pre_fixed_vector h = record { in_boxes = h.in_boxes; quiet = h.pre_fixed }
 
-pub post_fixed_bound : {points : List Point} {u : List ℕ} → IsGreatest points u → IsBound Ceil points u
-post_fixed_bound h = record { in_boxes = h.in_boxes; quiet = h.post_fixed }
+pub post_fixed_vector : {points : List Point} {u : List ℕ} → IsGreatest points u → IsQuietVector Ceil points u
+post_fixed_vector h = record { in_boxes = h.in_boxes; quiet = h.post_fixed }
 
 pub below_least : {s : SeatState} → IsSound Floor s → IsBelowLeast s
 below_least h = record {
@@ -29,7 +29,7 @@ below_least h = record {
   in_boxes = h.in_boxes;
   from_start = h.started;
   below = λ u boxes quiet. h.first u (record { in_boxes = boxes; quiet = quiet });
-  raises = λ v least. h.paid v (pre_fixed_bound least);
+  raises = λ v least. h.paid v (pre_fixed_vector least);
 }
 
 pub above_greatest : {s : SeatState} → IsSound Ceil s → IsAboveGreatest s
@@ -38,7 +38,7 @@ above_greatest h = record {
   in_boxes = h.in_boxes;
   from_start = h.started;
   above = λ u boxes quiet. h.first u (record { in_boxes = boxes; quiet = quiet });
-  lowers = λ v greatest. h.paid v (post_fixed_bound greatest);
+  lowers = λ v greatest. h.paid v (post_fixed_vector greatest);
 }
 
 pub rises_of : {old new : SeatState} → Advances Floor old new → Rises old new

@@ -1,5 +1,5 @@
 -- Looks, relaxations and sweeps: what is known of a seat along the way.
-use Rattle.std.proofs.Common.{slice_index_or, ◌≡◌, ◌≢◌, ℕ, ◌+◌, ◌-◌, ◌*◌, ◌<◌, ◌≤◌, List, length, take, drop, set, Bool, true, false, ◌||◌, MatchBool, refl, sym, ap, ◌∙◌, ⊎_elim, arith}
+use Rattle.std.proofs.Common.{slice_index_or, ◌≡◌, ◌≢◌, ℕ, ◌+◌, ◌-◌, ◌*◌, ◌<◌, ◌≤◌, List, length, map, take, drop, set, Bool, true, false, ◌||◌, MatchBool, refl, sym, ap, ◌∙◌, ⊎_elim, arith}
 use Rattle.std.specs.List.{slice_index, sum_by, All}
 use Rattle.std.proofs.lemmas.List.{get_or-set_other}
 use Rattle.std.proofs.lemmas.List.{get_or-drop, length-drop, get_or-map, get_or_past, length-map}
@@ -15,7 +15,7 @@ use Rattle.relax_system.specs.System.{point_at, no_point, IsValid}
 use Rattle.relax_system.specs.Sides.{Before, AllBefore, mean_of}
 use Rattle.relax_system.specs.Means.{InBoxes}
 use Rattle.relax_system.proofs.SideMeans.{Before_refl}
-use Rattle.relax_table.specs.Ways.{distance, end_of, ends_of, IsBound, IsQuietIn}
+use Rattle.relax_table.specs.Ways.{distance, IsQuietVector, IsQuietIn}
 use Rattle.relax_table.specs.Step.{word_after}
 use Rattle.relax_table.specs.Step.Kind.{Renew}
 use Rattle.relax_table.proofs.Vectors.{mean_of-set}
@@ -147,10 +147,18 @@ pub record IsSettling (side : Side) (t : TableState) (cost : ℕ) (old new : Sea
   pub own : IsSeatOf t new
   pub advances : Advances side old new
   pub counted : now + (old.loads + old.fetches) ≡ first + (new.loads + new.fetches)
-  pub within : (u : List ℕ) → IsBound side t.system u → now + distance side new.seen u * cost ≤ first + distance side old.seen u * cost
+  pub within : (u : List ℕ) → IsQuietVector side t.system u → now + distance side new.seen u * cost ≤ first + distance side old.seen u * cost
 
 pub settling_none : (side : Side) (t : TableState) (cost : ℕ) (s : SeatState) (first : ℕ) → IsSeatOf t s → IsSound side s → IsSettling side t cost s s first first
-settling_none side t cost s first own sound = record { own = own; advances = advances_none side s sound; counted = refl; within = λ u bound. omega arith }
+settling_none side t cost s first own sound = record { own = own; advances = advances_none side s sound; counted = refl; within = λ u calm. omega arith }
+
+-- where the side's way ends at the latest
+abbrev pub end_of : Side → Point → ℕ
+end_of Floor p = p.hi
+end_of Ceil p = p.lo
+
+abbrev pub ends_of : Side → List Point → List ℕ
+ends_of side points = map (end_of side) points
 
 -- what is left of the way falls where the seat goes on
 pub left-falls : (side : Side) (mid new : SeatState) (u : List ℕ) → IsSound side mid → Advances side mid new → length new.seen ≡ length u → AllBefore side new.seen u → 1 ≤ distance side mid.seen new.seen → distance side new.seen u + 1 ≤ distance side mid.seen u
@@ -162,25 +170,25 @@ settling_more side t cost old mid new first now now' h own advances counted step
   own = own;
   advances = advances_on side old mid new h.advances advances;
   counted = omega (arith, h.counted);
-  within = λ u bound.
-      let bound' : IsBound side new.system u = rw own.same_system bound in
-      let all : length new.seen ≡ length u = omega (arith, advances.sound.in_boxes.all, bound'.in_boxes.all) in
-      let less : distance side new.seen u + 1 ≤ distance side mid.seen u = left-falls side mid new u h.advances.sound advances all (advances.sound.first u bound') went in
+  within = λ u calm.
+      let calm' : IsQuietVector side new.system u = rw own.same_system calm in
+      let all : length new.seen ≡ length u = omega (arith, advances.sound.in_boxes.all, calm'.in_boxes.all) in
+      let less : distance side new.seen u + 1 ≤ distance side mid.seen u = left-falls side mid new u h.advances.sound advances all (advances.sound.first u calm') went in
       let product : (distance side new.seen u + 1) * cost ≤ distance side mid.seen u * cost = mul-le-mul_right cost less in
       let spread : (distance side new.seen u + 1) * cost ≡ distance side new.seen u * cost + cost = add-mul (distance side new.seen u) 1 cost ∙ omega arith in
-      omega (arith, h.within u bound);
+      omega (arith, h.within u calm);
 }
 
 -- the quiet sweep at the end costs one more
-pub settled_cost : (side : Side) (t : TableState) (cost : ℕ) (old mid new : SeatState) (first now now' : ℕ) (u : List ℕ) → IsSound side old → IsSeatOf t old → IsSettling side t cost old mid first now → now' ≡ now + cost → IsBound side t.system u
+pub settled_cost : (side : Side) (t : TableState) (cost : ℕ) (old mid new : SeatState) (first now now' : ℕ) (u : List ℕ) → IsSound side old → IsSeatOf t old → IsSettling side t cost old mid first now → now' ≡ now + cost → IsQuietVector side t.system u
     → now' ≤ first + (distance side t.start u + 2) * cost
-settled_cost side t cost old mid new first now now' u sound own h steps bound =
-    let bound' : IsBound side old.system u = rw own.same_system bound in
-    let less : distance side old.seen u ≤ distance side old.start u = omega (arith, distance-add side old.start old.seen u (omega (arith, sound.start_boxes.all, sound.in_boxes.all)) (omega (arith, sound.in_boxes.all, bound'.in_boxes.all)) sound.started (sound.first u bound')) in
+settled_cost side t cost old mid new first now now' u sound own h steps calm =
+    let calm' : IsQuietVector side old.system u = rw own.same_system calm in
+    let less : distance side old.seen u ≤ distance side old.start u = omega (arith, distance-add side old.start old.seen u (omega (arith, sound.start_boxes.all, sound.in_boxes.all)) (omega (arith, sound.in_boxes.all, calm'.in_boxes.all)) sound.started (sound.first u calm')) in
     let start : distance side old.start u ≡ distance side t.start u = ap (λ (s : List ℕ). distance side s u) own.same_start in
     let product : (distance side old.seen u + 2) * cost ≤ (distance side t.start u + 2) * cost = mul-le-mul_right cost (omega arith) in
     let spread : (distance side old.seen u + 2) * cost ≡ distance side old.seen u * cost + (cost + cost) = add-mul (distance side old.seen u) 2 cost ∙ omega arith in
-    omega (arith, h.within u bound)
+    omega (arith, h.within u calm)
 
 end-after : (side : Side) (p : Point) (x : ℕ) → p.lo ≤ x → x ≤ p.hi → Before side x (end_of side p)
 end-after Floor p x low high = high

@@ -6,7 +6,7 @@ use Rattle.relax_system.specs.declared.points.Point.{Point}
 use Rattle.relax_system.specs.System.{point_at, IsValid}
 use Rattle.relax_system.specs.Means.{InBoxes}
 use Rattle.relax_system.specs.Sides.{AllBefore}
-use Rattle.relax_table.specs.Ways.{distance, IsBound}
+use Rattle.relax_table.specs.Ways.{distance, IsQuietVector}
 
 -- which table it is, its system, and the vector that it was made with
 pub record TableState : Type 0 where
@@ -36,8 +36,8 @@ pub record IsSound (side : Side) (s : SeatState) : Type 0 where
   pub start_boxes : InBoxes s.system s.start
   pub in_boxes : InBoxes s.system s.seen
   pub started : AllBefore side s.start s.seen
-  pub first : (u : List ℕ) → IsBound side s.system u → AllBefore side s.seen u
-  pub paid : (u : List ℕ) → IsBound side s.system u → s.moves ≤ distance side s.start u
+  pub first : (u : List ℕ) → IsQuietVector side s.system u → AllBefore side s.seen u
+  pub paid : (u : List ℕ) → IsQuietVector side s.system u → s.moves ≤ distance side s.start u
 
 -- no count fell
 pub record CountsOn (old new : SeatState) : Type 0 where

@@ -8,7 +8,7 @@ ghost use Rattle.relax_table.specs.Step.Kind.{Load, Renew};
 ghost use Rattle.relax_table.specs.Seats.{IsSeatOf, Advances, IsNoNeighbour};
 ghost use Rattle.relax_table.specs.Ways.{distance, is_past, one_if};
 ghost use Rattle.std.specs.Prelude.{[], false, ◌||◌};
-ghost use Rattle.relax_table.specs.Forms.Rule.{Told};
+ghost use Rattle.relax_table.specs.Forms.Rule.{Stepped};
 
 use crate::direction::{Direction, further, mean, passes};
 use crate::rule::{Looks, Renews, View};
@@ -139,7 +139,7 @@ impl<'a, D: Direction> SideTable<'a, D> {
         requires point { i < length self.now.system }
         requires mean { mean ≡ mean_of D.side seat.old.me.0.system i seat.old.me.0.seen }
         ensures own { (seat.new.table_id ≡ self.now.id) × (seat.new.me.1 ≡ []) }
-        ensures told { Told D.side Renew i seat.old.me.0 result seat.new.me.0 }
+        ensures stepped { Stepped D.side Renew i seat.old.me.0 result seat.new.me.0 }
     {
         let _ = &self.system;
         match D::side() {

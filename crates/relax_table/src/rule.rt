@@ -1,4 +1,4 @@
-//! The rule of a table, and what each kind of step tells.
+//! The rule of a table, and what each kind of step leaves.
 
 ghost use Rattle.std.specs.Prelude.{◌≡◌};
 
@@ -9,7 +9,7 @@ use std::collections::LinkedList;
 use std::marker::PhantomData;
 use std::snapshot::Snapshot;
 
-/// What a table is told once: its system, and the vector that its words begin with. It has no bytes.
+/// What a table is made with: its system, and the vector that its words begin with. It has no bytes.
 #[derive(Drop)]
 pub struct Origin {
     pub system: Snapshot<System>,
@@ -50,9 +50,9 @@ pub(crate) struct Looks<D> {
 impl<S, D: Direction> Play<S, View> for Looks<D> {
     ghost use Rattle.std.specs.Prelude.{◌≡◌};
     ghost use Rattle.relax_table.specs.Step.Kind.{Load};
-    ghost use Rattle.relax_table.specs.Forms.Rule.{Told};
+    ghost use Rattle.relax_table.specs.Forms.Rule.{Stepped};
 
-    ghost then = { λ s v x w. (w.1 ≡ v.1) × Told D.side Load s.word v.0 x w.0 };
+    ghost then = { λ s v x w. (w.1 ≡ v.1) × Stepped D.side Load s.word v.0 x w.0 };
 }
 
 /// A fetch of the mean of what the seat has seen.
@@ -63,12 +63,12 @@ pub(crate) struct Renews<D> {
 impl<S, D: Direction> Play<S, View> for Renews<D> {
     ghost use Rattle.std.specs.Prelude.{◌≡◌};
     ghost use Rattle.relax_table.specs.Step.Kind.{Renew};
-    ghost use Rattle.relax_table.specs.Forms.Rule.{Told};
+    ghost use Rattle.relax_table.specs.Forms.Rule.{Stepped};
 
-    ghost then = { λ s v x w. (w.1 ≡ v.1) × Told D.side Renew s.word v.0 x w.0 };
+    ghost then = { λ s v x w. (w.1 ≡ v.1) × Stepped D.side Renew s.word v.0 x w.0 };
 }
 
-/// A load that leaves the view as it is. It tells a joined seat the bound on its moves.
+/// A load that leaves the view as it is. By it a joined seat knows the bound on its moves.
 pub(crate) struct Learns<D> {
     direction: PhantomData<D>,
 }

@@ -36,7 +36,7 @@ impl<D: Direction> Model for SideSeat<D> {
 }
 
 impl<D: Direction> SideSeat<D> {
-    /// Does nothing, and tells what holds of a seat at every moment.
+    /// Does nothing; its clause is what holds of a seat at every moment.
     #[inline(always)]
     pub(crate) fn know(&self)
         ensures { IsSound D.side self.now }

@@ -3,7 +3,7 @@
 ghost use Rattle.std.specs.Prelude.{◌≡◌, ℕ, ◌+◌, ◌*◌, ◌<◌, ◌≤◌, List, length, MatchBool};
 ghost use Rattle.relax_system.specs.Sides.{IsExtremal};
 ghost use Rattle.relax_table.specs.Seats.{IsSeatOf, Advances, sweep_steps};
-ghost use Rattle.relax_table.specs.Ways.{distance, IsBound, IsQuietIn};
+ghost use Rattle.relax_table.specs.Ways.{distance, IsQuietVector, IsQuietIn};
 
 use crate::direction::Direction;
 use crate::relax::either;
@@ -28,7 +28,7 @@ impl<'a, D: Direction> SideTable<'a, D> {
         ensures advances { Advances D.side seat.old seat.new }
         ensures quiet { IsQuietIn D.side self.now.system from to seat.new.seen }
         ensures counted { steps.new + (seat.old.loads + seat.old.fetches) ≡ steps.old + (seat.new.loads + seat.new.fetches) }
-        ensures cost { (u : List ℕ) → IsBound D.side self.now.system u → steps.new ≤ steps.old + (distance D.side self.now.start u + 2) * sweep_steps self.now.system from to }
+        ensures cost { (u : List ℕ) → IsQuietVector D.side self.now.system u → steps.new ≤ steps.old + (distance D.side self.now.start u + 2) * sweep_steps self.now.system from to }
     {
         seat.know();
         'sweeps: while self.sweep(seat, from, to, steps) {}

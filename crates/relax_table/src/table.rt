@@ -4,7 +4,7 @@ ghost use Rattle.std.specs.Prelude.{◌≡◌, ◌+◌, ◌<◌, ◌≤◌, leng
 ghost use Rattle.relax_system.specs.Sides.{AllBefore};
 ghost use Rattle.relax_system.specs.Means.{InBoxes};
 ghost use Rattle.relax_system.specs.System.{IsValid};
-ghost use Rattle.relax_table.specs.Ways.{further_of, IsBound};
+ghost use Rattle.relax_table.specs.Ways.{further_of, IsQuietVector};
 ghost use Rattle.relax_table.specs.Seats.{SeatState, IsSeatOf, IsSound, Advances};
 ghost use Rattle.relax_table.specs.Forms.Rule.{furthest};
 ghost use Rattle.std.specs.Prelude.{ℕ, List};
@@ -47,7 +47,7 @@ impl<'a, D: Direction> SideTable<'a, D> {
     ) -> Result<(SideTable<'a, D>, SideSeat<D>), Memory>
         requires some { 0 < length system.now }
         requires boxes { InBoxes system.now start.now }
-        requires first { (u : List ℕ) → IsBound D.side system.now u → AllBefore D.side start.now u }
+        requires first { (u : List ℕ) → IsQuietVector D.side system.now u → AllBefore D.side start.now u }
         ensures table { IfOk result (λ t. (t.0.system ≡ system.now) × (t.0.start ≡ start.now)) }
         ensures own { IfOk result (λ t. IsSeatOf t.0 t.1) }
         ensures seat { IfOk result (λ t. (t.1.seen ≡ start.now) × (t.1.loads ≡ 0) × (t.1.fetches ≡ 0) × (t.1.moves ≡ 0)) }

@@ -1,4 +1,4 @@
--- The rule of a table over its words, its start and the views of all seats, and what each step tells.
+-- The rule of a table over its words, its start and the views of all seats, and what each step leaves.
 use Rattle.std.specs.Prelude.{◌≡◌, ℕ, ◌+◌, ◌≤◌, List, [], map, sum_by, true, false}
 use Rattle.std.specs.List.{slice_index, zip}
 use mathlib.Core.Option.{some}
@@ -10,7 +10,7 @@ use Rattle.relax_system.specs.System.{IsValid}
 use Rattle.relax_system.specs.Means.{InBoxes}
 use Rattle.relax_system.specs.Sides.{Before, AllBefore}
 use Rattle.relax_table.specs.declared.rule.View.{View}
-use Rattle.relax_table.specs.Ways.{further_of, is_past, one_if, distance, IsBound}
+use Rattle.relax_table.specs.Ways.{further_of, is_past, one_if, distance, IsQuietVector}
 use Rattle.relax_table.specs.Step.{Kind, word_after, seen_after}
 use Rattle.relax_table.specs.Step.Kind.{Load, Renew}
 use Rattle.relax_table.specs.Seats.{SeatState, IsSound}
@@ -37,7 +37,7 @@ pub record Keeps (side : Side) (points : List Point) (start words : List ℕ) (v
   pub start_boxes : InBoxes points start
   pub in_boxes : InBoxes points words
   pub started : AllBefore side start words
-  pub first : (u : List ℕ) → IsBound side points u → AllBefore side words u
+  pub first : (u : List ℕ) → IsQuietVector side points u → AllBefore side words u
   pub each : (k : ℕ) (v : View) → get_elem? views k ≡ some v → v.spent ≡ false → IsInStep side points start words v
   pub paid : all_moves views ≤ distance side start words
 
@@ -74,13 +74,13 @@ stepped_view side Renew i v x = record {
   spent = v.spent;
 }
 
--- What a step tells: the word found isn't back from what the seat had seen, and the seat is sound after it.
-pub record Told (side : Side) (kind : Kind) (i : ℕ) (v : View) (x : ℕ) (w : View) : Type 0 where
+-- After a step: the word found isn't back from what the seat had seen, and the seat is sound after it.
+pub record Stepped (side : Side) (kind : Kind) (i : ℕ) (v : View) (x : ℕ) (w : View) : Type 0 where
   pub view : w ≡ stepped_view side kind i v x
   pub found : Before side (slice_index v.seen i) x
   pub sound : (id : TableId) → IsSound side (state_of id w)
 
--- what a load that changes no view tells
+-- after a load that changes no view
 pub record Learned (side : Side) (v w : View) : Type 0 where
   pub view : w ≡ v
   pub sound : (id : TableId) → IsSound side (state_of id w)

@@ -13,4 +13,4 @@ sweeps-preserved g c = settling_more g.D.Direction.side c.args.self.now _ c.args
     c.sweep.ensures.steps (MatchBool-at_true _ _ c.sweeps-test.true c.sweep.ensures.moved)
 
 pub returns-clause-cost : goal.returns-clause-cost
-returns-clause-cost g c = λ u bound. settled_cost g.D.Direction.side c.args.self.now _ c.args.seat.now c.sweeps.seat c.sweep.new.seat c.args.steps.now c.sweeps.steps c.sweep.new.steps u c.know.ensures c.requires.own c.sweeps.invariant c.sweep.ensures.steps bound
+returns-clause-cost g c = λ u calm. settled_cost g.D.Direction.side c.args.self.now _ c.args.seat.now c.sweeps.seat c.sweep.new.seat c.args.steps.now c.sweeps.steps c.sweep.new.steps u c.know.ensures c.requires.own c.sweeps.invariant c.sweep.ensures.steps calm
