@@ -1,7 +1,7 @@
 -- A seat between calls: what a step leaves of it.
-use Rattle.std.proofs.Common.{◌≡◌, ℕ, ◌+◌, ◌-◌, ◌*◌, ◌^◌, ◌<◌, ◌≤◌, List, length, set, refl, ap, ◌∙◌, arith}
+use Rattle.std.proofs.Common.{◌≡◌, ℕ, ◌+◌, ◌-◌, ◌*◌, ◌^◌, ◌<◌, ◌≤◌, List, [], ◌++◌, append_assoc, length, set, refl, sym, ap, ◌∙◌, arith}
 use Rattle.std.specs.List.{slice_index}
-use Rattle.std.proofs.lemmas.List.{get_or-set_same}
+use Rattle.std.proofs.lemmas.List.{get_or-set_same, append-nil}
 use Rattle.atomic_table.specs.Seated.{TableId}
 use Rattle.relax_system.specs.declared.side.Side.{Side}
 use Rattle.relax_system.specs.declared.points.Point.{Point}
@@ -14,7 +14,7 @@ use Rattle.relax_table.specs.declared.rule.View.{View}
 use Rattle.relax_table.specs.Ways.{is_past, one_if, apart, distance, IsQuietVector, IsQuietIn}
 use Rattle.relax_table.specs.Step.{word_after}
 use Rattle.relax_table.specs.Step.Kind.{Load, Renew}
-use Rattle.relax_table.specs.Seats.{SeatState, IsSound, Advances}
+use Rattle.relax_table.specs.Seats.{SeatState, IsSound, Advances, Continues}
 use Rattle.relax_table.specs.Forms.Rule.{state_of, Stepped, IsHeld, sprout, joined, furthest, Learned}
 use Rattle.relax_table.proofs.Numbers.{further-first, further-second, apart-within}
 use Rattle.relax_table.proofs.Distances.{distance-wide}
@@ -75,6 +75,16 @@ advances_on side a b c h k = record {
   counts = record { loads = omega (arith, h.counts.loads, k.counts.loads); fetches = omega (arith, h.counts.fetches, k.counts.fetches); moves = omega (arith, h.counts.moves, k.counts.moves) };
   further = AllBefore-trans side a.seen b.seen c.seen h.further k.further;
   sound = k.sound;
+}
+
+pub continues_none : (s : SeatState) → Continues s s
+continues_none s = record { parts = refl; looked = ([], sym (append-nil s.looked)); renewed = ([], sym (append-nil s.renewed)) }
+
+pub continues_on : (a b c : SeatState) → Continues a b → Continues b c → Continues a c
+continues_on a b c h k = record {
+  parts = k.parts ∙ h.parts;
+  looked = (h.looked.0 ++ k.looked.0, rw (k.looked.1, h.looked.1) (append_assoc a.looked h.looked.0 k.looked.0));
+  renewed = (h.renewed.0 ++ k.renewed.0, rw (k.renewed.1, h.renewed.1) (append_assoc a.renewed h.renewed.0 k.renewed.0));
 }
 
 -- the mean of a point that was renewed stands before its entry

@@ -1,8 +1,8 @@
 -- Looks, relaxations and sweeps: what is known of a seat along the way.
-use Rattle.std.proofs.Common.{slice_index_or, ◌≡◌, ◌≢◌, ℕ, ◌+◌, ◌-◌, ◌*◌, ◌<◌, ◌≤◌, List, length, map, take, drop, set, Bool, true, false, ◌||◌, MatchBool, refl, sym, ap, ◌∙◌, ⊎_elim, arith}
+use Rattle.std.proofs.Common.{slice_index_or, ◌≡◌, ◌≢◌, ℕ, ◌+◌, ◌-◌, ◌*◌, ◌<◌, ◌≤◌, List, [], ◌∷◌, ◌++◌, append_assoc, length, map, take, drop, set, Bool, true, false, ◌||◌, MatchBool, refl, sym, ap, ◌∙◌, ⊎_elim, arith}
 use Rattle.std.specs.List.{slice_index, sum_by, All}
 use Rattle.std.proofs.lemmas.List.{get_or-set_other}
-use Rattle.std.proofs.lemmas.List.{get_or-drop, length-drop, get_or-map, get_or_past, length-map}
+use Rattle.std.proofs.lemmas.List.{get_or-drop, length-drop, get_or-map, get_or_past, length-map, take_more, take_all}
 use Rattle.std.proofs.lemmas.List.Sums.{sum_by_more}
 use Rattle.std.proofs.Math.Nat.{add-mul, mul-le-mul_right}
 use Rattle.std.proofs.lemmas.Bool.{cases_eq, cases_lt, false≢true}
@@ -19,10 +19,10 @@ use Rattle.relax_table.specs.Ways.{distance, IsQuietVector, IsQuietIn}
 use Rattle.relax_table.specs.Step.{word_after}
 use Rattle.relax_table.specs.Step.Kind.{Renew}
 use Rattle.relax_table.proofs.Vectors.{mean_of-set}
-use Rattle.relax_table.specs.Seats.{TableState, SeatState, IsSeatOf, IsSound, Advances, sweep_steps}
+use Rattle.relax_table.specs.Seats.{TableState, SeatState, IsSeatOf, IsSound, Advances, Continues, sweep_steps}
 use Rattle.relax_table.proofs.Numbers.{apart-positive}
 use Rattle.relax_table.proofs.Distances.{distance-add, distance_to_set}
-use Rattle.relax_table.proofs.Seated.{advances_on, advances_none}
+use Rattle.relax_table.proofs.Seated.{advances_on, advances_none, continues_on, continues_none}
 
 -- whether a vector went on, or stayed as it was
 abbrev pub WentOn : Side → Bool → List ℕ → List ℕ → Type 0
@@ -52,15 +52,32 @@ pub record IsLooked (side : Side) (near : List Near) (t : TableState) (old new :
   pub loads : new.loads ≡ old.loads + n
   pub fetches : new.fetches ≡ old.fetches
   pub moves : new.moves ≡ old.moves
+  pub looked : new.looked ≡ old.looked ++ take n (map (λ e. e.point) near)
+  pub rest : (new.renewed ≡ old.renewed) × (new.parts ≡ old.parts)
   pub others : (j : ℕ) → All (λ e. e.point ≢ j) near → slice_index new.seen j ≡ slice_index old.seen j
   pub all : length old.seen ≡ length new.seen
   pub went : WentOn side moved old.seen new.seen
   pub steps : now ≡ first + n
 
+-- one more neighbour's number
+looks_more : (near : List Near) (n j : ℕ) (d : Near) → n < length near → j ≡ (slice_index_or near n d).point → take (n + 1) (map (λ (e : Near). e.point) near) ≡ take n (map (λ (e : Near). e.point) near) ++ j ∷ []
+looks_more near n j d more at =
+    let f : Near → ℕ = λ e. e.point in
+    let inside : n < length (map f near) = omega (arith, length-map near f) in
+    let here : slice_index_or (map f near) n d.point ≡ j = get_or-map f near n d d.point more ∙ sym at in
+    take_more (map f near) n d.point inside ∙ ap (λ (k : ℕ). take n (map f near) ++ k ∷ []) here
+
+-- the looks at all neighbours
+pub looked_all : (side : Side) (near : List Near) (t : TableState) (old new : SeatState) (first now n : ℕ) (moved : Bool) → IsLooked side near t old new first now n moved → length near ≤ n → new.looked ≡ old.looked ++ map (λ e. e.point) near
+looked_all side near t old new first now n moved h all =
+    let f : Near → ℕ = λ e. e.point in
+    let whole : take n (map f near) ≡ map f near = take_all n (map f near) (omega (arith, length-map near f)) in
+    h.looked ∙ ap (λ (l : List ℕ). old.looked ++ l) whole
+
 pub looked_more : (side : Side) (near : List Near) (t : TableState) (old mid new : SeatState) (steps steps' steps'' n j x y : ℕ) (moved b : Bool) (d : Near) → IsLooked side near t old mid steps steps' n moved → n < length near → j ≡ (slice_index_or near n d).point → j < length mid.seen
-    → IsSeatOf t new → Advances side mid new → new.seen ≡ set mid.seen j x → (new.loads ≡ mid.loads + 1) × (new.fetches ≡ mid.fetches) × (new.moves ≡ mid.moves) → steps'' ≡ steps' + 1 → Before side (slice_index mid.seen j) x
+    → IsSeatOf t new → Advances side mid new → new.seen ≡ set mid.seen j x → (new.loads ≡ mid.loads + 1) × (new.fetches ≡ mid.fetches) × (new.moves ≡ mid.moves) → (new.looked ≡ mid.looked ++ j ∷ []) × (new.renewed ≡ mid.renewed) × (new.parts ≡ mid.parts) → steps'' ≡ steps' + 1 → Before side (slice_index mid.seen j) x
     → y ≡ slice_index mid.seen j → MatchBool b (x ≢ y) (x ≡ y) → IsLooked side near t old new steps steps'' (n + 1) (moved || b)
-looked_more side near t old mid new steps steps' steps'' n j x y moved b d h more at there own advances seen counts one found e differ =
+looked_more side near t old mid new steps steps' steps'' n j x y moved b d h more at there own advances seen counts points one found e differ =
     let on = advances_on side old mid new h.advances advances in
     let same : length mid.seen ≡ length new.seen = seen_all side mid new h.advances.sound advances in
     record {
@@ -69,6 +86,8 @@ looked_more side near t old mid new steps steps' steps'' n j x y moved b d h mor
       loads = omega (arith, h.loads, counts.0);
       fetches = counts.1 ∙ h.fetches;
       moves = counts.2 ∙ h.moves;
+      looked = rw (points.0, h.looked, looks_more near n j d more at) (append_assoc old.looked (take n (map (λ (e : Near). e.point) near)) (j ∷ []));
+      rest = (points.1 ∙ h.rest.0, points.2 ∙ h.rest.1);
       others = λ k apart'. rw seen (get_or-set_other mid.seen j k x 0 (λ same. apart' n d more (sym at ∙ sym same)) ∙ h.others k apart');
       all = h.all ∙ same;
       went = went_both side old.seen mid.seen new.seen moved b h.all same h.advances.further advances.further h.went (rw seen (went_set side mid.seen j x y b there found e differ));
@@ -110,6 +129,7 @@ pub record IsSweptTo (side : Side) (t : TableState) (from i : ℕ) (old new : Se
   pub advances : Advances side old new
   pub counted : now + (old.loads + old.fetches) ≡ first + (new.loads + new.fetches)
   pub cost : now ≡ first + sweep_steps t.system from i
+  pub continues : Continues old new
   pub all : length old.seen ≡ length new.seen
   pub went : WentOn side moved old.seen new.seen
   pub quiet : moved ≡ false → IsQuietIn side t.system from i new.seen
@@ -124,14 +144,15 @@ still side false u v e h = h
 
 pub swept_more : (side : Side) (t : TableState) (from i : ℕ) (old mid new : SeatState) (first now now' : ℕ) (moved b : Bool) → IsSweptTo side t from i old mid first now moved → from ≤ i → i < length t.system → IsSeatOf t new → Advances side mid new
     → (new.loads ≡ mid.loads + length (point_at t.system i).near) × (new.fetches ≡ mid.fetches + 1) → Before side (mean_of side t.system i new.seen) (slice_index new.seen i) → WentOn side b mid.seen new.seen
-    → now' ≡ now + (length (point_at t.system i).near + 1) → IsSweptTo side t from (i + 1) old new first now' (moved || b)
-swept_more side t from i old mid new first now now' moved b h order there own advances counts quiet went steps =
+    → now' ≡ now + (length (point_at t.system i).near + 1) → Continues mid new → IsSweptTo side t from (i + 1) old new first now' (moved || b)
+swept_more side t from i old mid new first now now' moved b h order there own advances counts quiet went steps continues =
     let same : length mid.seen ≡ length new.seen = seen_all side mid new h.advances.sound advances in
     record {
       own = own;
       advances = advances_on side old mid new h.advances advances;
       counted = omega (arith, h.counted, counts.0, counts.1);
       cost = omega (arith, h.cost, sweep_steps-more t.system from i order there);
+      continues = continues_on old mid new h.continues continues;
       all = h.all ∙ same;
       went = went_both side old.seen mid.seen new.seen moved b h.all same h.advances.further advances.further h.went went;
       quiet = λ none k low high.
@@ -146,11 +167,12 @@ swept_more side t from i old mid new first now now' moved b h order there own ad
 pub record IsSettling (side : Side) (t : TableState) (cost : ℕ) (old new : SeatState) (first now : ℕ) : Type 0 where
   pub own : IsSeatOf t new
   pub advances : Advances side old new
+  pub continues : Continues old new
   pub counted : now + (old.loads + old.fetches) ≡ first + (new.loads + new.fetches)
   pub within : (u : List ℕ) → IsQuietVector side t.system u → now + distance side new.seen u * cost ≤ first + distance side old.seen u * cost
 
 pub settling_none : (side : Side) (t : TableState) (cost : ℕ) (s : SeatState) (first : ℕ) → IsSeatOf t s → IsSound side s → IsSettling side t cost s s first first
-settling_none side t cost s first own sound = record { own = own; advances = advances_none side s sound; counted = refl; within = λ u calm. omega arith }
+settling_none side t cost s first own sound = record { own = own; advances = advances_none side s sound; continues = continues_none s; counted = refl; within = λ u calm. omega arith }
 
 -- where the side's way ends at the latest
 abbrev pub end_of : Side → Point → ℕ
@@ -165,8 +187,9 @@ pub left-falls : (side : Side) (mid new : SeatState) (u : List ℕ) → IsSound 
 left-falls side mid new u sound advances all before went = omega (arith, distance-add side mid.seen new.seen u (seen_all side mid new sound advances) all advances.further before)
 
 pub settling_more : (side : Side) (t : TableState) (cost : ℕ) (old mid new : SeatState) (first now now' : ℕ) → IsSettling side t cost old mid first now → IsSeatOf t new → Advances side mid new → now' + (mid.loads + mid.fetches) ≡ now + (new.loads + new.fetches) → now' ≡ now + cost
-    → 1 ≤ distance side mid.seen new.seen → IsSettling side t cost old new first now'
-settling_more side t cost old mid new first now now' h own advances counted steps went = record {
+    → 1 ≤ distance side mid.seen new.seen → Continues mid new → IsSettling side t cost old new first now'
+settling_more side t cost old mid new first now now' h own advances counted steps went continues = record {
+  continues = continues_on old mid new h.continues continues;
   own = own;
   advances = advances_on side old mid new h.advances advances;
   counted = omega (arith, h.counted);

@@ -21,10 +21,18 @@ pub struct View {
     pub system: System,
     pub start: LinkedList<u64>,
     pub seen: LinkedList<u64>,
+    /// The points whose words it loaded, one after another.
+    pub looked: LinkedList<u64>,
+    /// The points whose words it fetched, one after another.
+    pub renewed: LinkedList<u64>,
     pub loads: u64,
     pub fetches: u64,
     /// The fetches that changed a word.
     pub moves: u64,
+    /// How many seats it is made of.
+    pub parts: u64,
+    /// The word that its last step found.
+    pub found: u64,
     /// Whether the seat was joined to another.
     pub spent: bool,
 }

@@ -1,5 +1,5 @@
 -- The rule of a table over its words, its start and the views of all seats, and what each step leaves.
-use Rattle.std.specs.Prelude.{◌≡◌, ℕ, ◌+◌, ◌≤◌, List, [], map, sum_by, true, false}
+use Rattle.std.specs.Prelude.{◌≡◌, ℕ, ◌+◌, ◌≤◌, List, [], ◌∷◌, ◌++◌, map, sum_by, true, false}
 use Rattle.std.specs.List.{slice_index, zip}
 use mathlib.Core.Option.{some}
 use lib.ListN.{get_elem?}
@@ -17,7 +17,7 @@ use Rattle.relax_table.specs.Seats.{SeatState, IsSound}
 
 -- a seat as clauses see it
 abbrev pub state_of : TableId → View → SeatState
-state_of id v = record { table = id; system = v.system; start = v.start; seen = v.seen; loads = v.loads; fetches = v.fetches; moves = v.moves }
+state_of id v = record { table = id; system = v.system; start = v.start; seen = v.seen; looked = v.looked; renewed = v.renewed; loads = v.loads; fetches = v.fetches; moves = v.moves; parts = v.parts; found = v.found }
 
 -- the moves of all seats together
 abbrev pub all_moves : List View → ℕ
@@ -43,11 +43,11 @@ pub record Keeps (side : Side) (points : List Point) (start words : List ℕ) (v
 
 -- the first view
 abbrev pub opened : List Point → List ℕ → View
-opened points start = record { system = points; start = start; seen = start; loads = 0; fetches = 0; moves = 0; spent = false }
+opened points start = record { system = points; start = start; seen = start; looked = []; renewed = []; loads = 0; fetches = 0; moves = 0; parts = 1; found = 0; spent = false }
 
--- a seat that is split off has seen the same, and has counts of 0
+-- a seat that is split off has seen the same, has made no step, and is one seat
 abbrev pub sprout : View → View
-sprout v = record { system = v.system; start = v.start; seen = v.seen; loads = 0; fetches = 0; moves = 0; spent = v.spent }
+sprout v = record { system = v.system; start = v.start; seen = v.seen; looked = []; renewed = []; loads = 0; fetches = 0; moves = 0; parts = 1; found = 0; spent = v.spent }
 
 -- of two vectors the entries that stand further on the way
 abbrev pub furthest : Side → List ℕ → List ℕ → List ℕ
@@ -55,22 +55,50 @@ furthest side u v = map (λ e. further_of side e.0 e.1) (zip u v)
 
 -- two seats made one
 abbrev pub joined : Side → View → View → View
-joined side v w = record { system = v.system; start = v.start; seen = furthest side v.seen w.seen; loads = v.loads + w.loads; fetches = v.fetches + w.fetches; moves = v.moves + w.moves; spent = v.spent }
+joined side v w = record {
+  system = v.system;
+  start = v.start;
+  seen = furthest side v.seen w.seen;
+  looked = v.looked ++ w.looked;
+  renewed = v.renewed ++ w.renewed;
+  loads = v.loads + w.loads;
+  fetches = v.fetches + w.fetches;
+  moves = v.moves + w.moves;
+  parts = v.parts + w.parts;
+  found = v.found;
+  spent = v.spent;
+}
 
 -- what a join leaves behind
 abbrev pub gone : View
-gone = record { system = []; start = []; seen = []; loads = 0; fetches = 0; moves = 0; spent = true }
+gone = record { system = []; start = []; seen = []; looked = []; renewed = []; loads = 0; fetches = 0; moves = 0; parts = 0; found = 0; spent = true }
 
 -- the view after a step on the word of the point i that found x
 abbrev pub stepped_view : Side → Kind → ℕ → View → ℕ → View
-stepped_view side Load i v x = record { system = v.system; start = v.start; seen = seen_after side v.system Load i x v.seen; loads = v.loads + 1; fetches = v.fetches; moves = v.moves; spent = v.spent }
+stepped_view side Load i v x = record {
+  system = v.system;
+  start = v.start;
+  seen = seen_after side v.system Load i x v.seen;
+  looked = v.looked ++ i ∷ [];
+  renewed = v.renewed;
+  loads = v.loads + 1;
+  fetches = v.fetches;
+  moves = v.moves;
+  parts = v.parts;
+  found = x;
+  spent = v.spent;
+}
 stepped_view side Renew i v x = record {
   system = v.system;
   start = v.start;
   seen = seen_after side v.system Renew i x v.seen;
+  looked = v.looked;
+  renewed = v.renewed ++ i ∷ [];
   loads = v.loads;
   fetches = v.fetches + 1;
   moves = v.moves + one_if (is_past side x (word_after side v.system Renew i x v.seen));
+  parts = v.parts;
+  found = x;
   spent = v.spent;
 }
 
