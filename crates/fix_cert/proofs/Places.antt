@@ -5,7 +5,7 @@ use Rattle.std.specs.Prelude.{Result}
 use Rattle.relax_system.specs.declared.points.Point.{Point}
 use Rattle.fix_cert.specs.declared.reading.Reading.{Reading}
 use Rattle.fix_cert.specs.declared.verdict.Side2.{Side2}
-use Rattle.fix_cert.specs.Reading.{IsFinding, AreFindings}
+use Rattle.fix_cert.specs.Forms.Reading.{IsFinding, AreFindings}
 
 module _ {Y : Type 0} (R : ℕ → Y → Type 0) where
   many_of : (a n : ℕ) (ys : List Y) → AllZip R (range_with_len a n) ys → length ys ≡ n

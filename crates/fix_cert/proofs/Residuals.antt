@@ -6,10 +6,7 @@ use Rattle.std.proofs.lemmas.Nat.{le-div, div_below}
 use Rattle.std.proofs.lemmas.Bool.{cases_lt}
 use Rattle.std.proofs.lemmas.Grind.{div_ceil_times}
 use Rattle.relax_system.proofs.Division.{div_ceil-high}
-use Rattle.fix_cert.specs.Reading.{IsResidual}
-
-pub residual_from_floor : (x k q : ℕ) → 1 ≤ k → q ≡ x / k → IsResidual x (k * q) k
-residual_from_floor x k q p e = rw e (record { low = omega arith; high = omega arith })
+use Rattle.fix_cert.specs.Forms.Reading.{IsResidual}
 
 pub floor_from_residual : (x k q : ℕ) → 1 ≤ k → IsResidual x (k * q) k → q ≡ x / k
 floor_from_residual x k q p h = omega (arith, le-div q x k p (omega (arith, h.low)), div_below x k (q + 1) p (omega (arith, h.high)))

@@ -7,7 +7,7 @@ use Rattle.relax_system.proofs.Residuals.{lower_from_fixed, upper_from_fixed}
 use Rattle.fix_cert.specs.declared.reading.Reading.{Reading}
 use Rattle.fix_cert.specs.declared.verdict.Side2.{Side2}
 use Rattle.fix_cert.specs.Verdict.{HoldsLower, HoldsUpper, HoldBefore, FailsAt, IsFirstBroken, IsMost, IsMostOfBoth, IsEnclosing, gap_at, lower_residual, upper_residual}
-use Rattle.fix_cert.specs.Reading.{IsReading}
+use Rattle.fix_cert.specs.Forms.Reading.{IsReading}
 use Rattle.fix_cert.proofs.Mosts.{no_most, one_more, no_most_of_both, one_more_of_both}
 
 -- the equations of the first points hold, with their greatest gap and their greatest residual
@@ -15,13 +15,6 @@ pub record IsSoFar (points : List Point) (lo hi : List ℕ) (passed gap worst : 
   pub held : HoldBefore points lo hi passed
   pub widest : IsMost passed (gap_at lo hi) gap
   pub worst_residual : IsMostOfBoth passed (lower_residual points lo) (upper_residual points hi) worst
-
-pub none_passed : (points : List Point) (lo hi : List ℕ) → IsSoFar points lo hi 0 0 0
-none_passed points lo hi = record {
-  held = λ i there. absurd (omega (arith, there));
-  widest = no_most (gap_at lo hi);
-  worst_residual = no_most_of_both (lower_residual points lo) (upper_residual points hi);
-}
 
 pub one_passed : (points : List Point) (lo hi : List ℕ) (passed gap worst : ℕ) (reading : Reading) → IsSoFar points lo hi passed gap worst
     → IsReading points lo hi passed reading → IsSoFar points lo hi (passed + 1) (max reading.gap gap) (max reading.residual worst)

@@ -2,7 +2,7 @@ ghost use Rattle.std.specs.Prelude.{◌<◌, ℕ, length, IfOk};
 ghost use Rattle.relax_system.specs.System.{IsValid};
 ghost use Rattle.relax_system.specs.Means.{InBoxes};
 ghost use Rattle.fix_cert.specs.Verdict.{IsVerdict, IsEnclosure};
-ghost use Rattle.fix_cert.specs.Reading.{IsFinding, AreFindings};
+ghost use Rattle.fix_cert.specs.Forms.Reading.{IsFinding, AreFindings};
 
 use crate::reading::{Reading, read};
 use crate::verdict::{Side2, Verdict};

@@ -3,7 +3,7 @@
 ghost use Rattle.std.specs.Prelude.{◌≡◌, ◌+◌, ◌-◌, ◌*◌, ◌^◌, ◌<◌, ◌≤◌, length, All, MatchOption};
 ghost use Rattle.relax_system.specs.Means.{InBoxes, pull};
 ghost use Rattle.relax_system.specs.System.{total_weight};
-ghost use Rattle.fix_cert.specs.Reading.{IsFinding, IsResidual};
+ghost use Rattle.fix_cert.specs.Forms.Reading.{IsFinding, IsResidual};
 
 use crate::verdict::Side2;
 use relax_system::{Point, System};

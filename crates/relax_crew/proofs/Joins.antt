@@ -7,7 +7,7 @@ use Rattle.relax_system.specs.declared.side.Side.TheVariants.{Floor, Ceil}
 use Rattle.relax_system.specs.declared.points.Point.{Point}
 use Rattle.relax_system.specs.Means.{InBoxes}
 use Rattle.relax_system.specs.Sides.{Before, AllBefore, IsExtremal}
-use Rattle.relax_table.specs.Ways.{IsBound}
+use Rattle.relax_table.specs.Ways.{IsQuietVector}
 use Rattle.relax_table.specs.Seats.{SeatState, Advances}
 
 same_place : (side : Side) (a b : ℕ) → Before side a b → Before side b a → a ≡ b
@@ -18,7 +18,7 @@ pub still_extremal : (side : Side) (points : List Point) (old new : SeatState) �
 still_extremal side points old new e on h =
     let P : List ℕ → Type 0 = λ v. IsExtremal side points v in
     let B : List Point → Type 0 = λ p. InBoxes p new.seen in
-    let Q : List Point → Type 0 = λ p. (u : List ℕ) → IsBound side p u → AllBefore side new.seen u in
+    let Q : List Point → Type 0 = λ p. (u : List ℕ) → IsQuietVector side p u → AllBefore side new.seen u in
     let boxes : InBoxes points new.seen = subst B e on.sound.in_boxes in
     let back = subst Q e on.sound.first old.seen (record { in_boxes = h.in_boxes; quiet = h.quiet }) in
     let same : old.seen ≡ new.seen = same_number_lists old.seen new.seen (omega (arith, boxes.all, h.in_boxes.all)) (λ k inside. same_place side (slice_index old.seen k) (slice_index new.seen k) (on.further k) (back k)) in

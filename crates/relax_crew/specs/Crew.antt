@@ -1,23 +1,6 @@
--- How a crew deals out the points, and what holds of its seats.
-use Rattle.std.specs.Prelude.{ℕ, ◌*◌, ◌/◌, ◌≤◌, List, All}
-use Rattle.relax_system.specs.declared.side.Side.{Side}
-use Rattle.relax_system.specs.declared.points.Point.{Point}
-use Rattle.relax_system.specs.Sides.{IsExtremal}
-use Rattle.relax_table.specs.Seats.{TableState, IsSeatOf}
-use Rattle.relax_crew.specs.declared.bench.Bench.{Bench}
+-- How many seats a crew may have.
+use Rattle.std.specs.Prelude.{ℕ, ◌≤◌}
 use Rattle.relax_crew.specs.declared.range.TheConstants.{MOST_SEATS}
-
--- the first point of the seat k, where so many points are dealt out to so many seats
-abbrev pub first_point : ℕ → ℕ → ℕ → ℕ
-first_point k seats points = k * points / seats
-
--- each bench has a seat of the table
-abbrev pub AllSeated : {D : Type 0} → TableState → List (Bench D) → Type 0
-AllSeated t benches = All (λ b. IsSeatOf t b.seat) benches
-
--- each seat has seen the extremal vector of the side
-abbrev pub AllExtremal : {D : Type 0} → Side → List Point → List (Bench D) → Type 0
-AllExtremal side points benches = All (λ b. IsExtremal side points b.seat.seen) benches
 
 -- a number of seats that a crew may have
 abbrev pub IsCrewSize : ℕ → Type 0

@@ -4,13 +4,14 @@ ghost use Rattle.std.specs.Prelude.{◌≡◌, ◌+◌, ◌-◌, ◌<◌, ◌≤
 ghost use Rattle.std.specs.Thread.{IsSync};
 ghost use Rattle.relax_system.specs.Sides.{starts_of, IsExtremal};
 ghost use Rattle.relax_table.specs.Seats.{IsSeatOf};
-ghost use Rattle.relax_crew.specs.Crew.{AllSeated, AllExtremal, IsCrewSize};
+ghost use Rattle.relax_crew.specs.Crew.{IsCrewSize};
+ghost use Rattle.relax_crew.specs.Forms.Turns.{AllSeated, AllExtremal};
 
-use crate::bench::Bench;
+use crate::spaced::Spaced;
 use crate::range::{MOST_SEATS, range_of};
 use book_outer::Gate;
 use book_text::Memory;
-use relax_system::{Side, System};
+use relax_system::{MOST_POINTS, Side, System};
 use relax_table::{Direction, SideSeat, SideTable, Steps};
 use std::alloc::Global;
 use std::marker::Brand;
@@ -36,9 +37,9 @@ pub(crate) fn solve<D: Direction, R: Threads + Sync, G: Gate>(
     let points = system.points();
     let start = starts(alloc, D::side(), system)?;
     let (table, first) = SideTable::<D>::over(alloc, system, &start)?;
-    let mut benches = benches(alloc, &table, first, seats)?;
-    run(rt, &table, points, &mut benches, gate);
-    Ok(joined(&table, benches))
+    let mut spaced = spaced_seats(alloc, &table, first, seats)?;
+    run(rt, &table, points, &mut spaced, gate);
+    Ok(joined(&table, spaced))
 }
 
 /// The ends of the boxes at which a side begins.
@@ -56,24 +57,24 @@ fn starts(alloc: Global, side: Side, system: &System) -> Result<Vec<u64>, Memory
     Ok(start)
 }
 
-/// Benches with seats of the table, of which the first is given.
-fn benches<D: Direction>(
+/// Seats of the table, a cache line apart, of which the first is given.
+fn spaced_seats<D: Direction>(
     alloc: Global,
     table: &SideTable<'_, D>,
     mut first: SideSeat<D>,
     seats: usize,
-) -> Result<Vec<Bench<D>>, Memory>
+) -> Result<Vec<Spaced<D>>, Memory>
     requires own { IsSeatOf table.now first }
     requires some { 1 ≤ seats }
     ensures count { IfOk result (λ b. vec_len b ≡ seats) }
     ensures seated { IfOk result (λ b. AllSeated table.now b.items) }
 {
-    let mut benches = Vec::new(alloc);
+    let mut spaced = Vec::new(alloc);
     for _ in 1..seats {
-        benches.push(Bench::new(table.split_side(&mut first)?))?;
+        spaced.push(Spaced::new(table.split_side(&mut first)?))?;
     }
-    benches.push(Bench::new(first))?;
-    Ok(benches)
+    spaced.push(Spaced::new(first))?;
+    Ok(spaced)
 }
 
 /// Runs each seat in a thread of its own.
@@ -81,44 +82,44 @@ fn run<D: Direction, R: Threads + Sync, G: Gate>(
     rt: &R,
     table: &SideTable<'_, D>,
     points: usize,
-    benches: &mut [Bench<D>],
+    spaced: &mut [Spaced<D>],
     gate: &G,
 )
     requires points { points ≡ length table.now.system }
-    requires few { points ≤ 2097152 }
-    requires some { IsCrewSize (length benches.old) }
-    requires seated { AllSeated table.now benches.old }
-    ensures count { length benches.new ≡ length benches.old }
-    ensures seated { AllSeated table.now benches.new }
-    ensures extremal { AllExtremal D.side table.now.system benches.new }
+    requires few { points ≤ MOST_POINTS }
+    requires some { IsCrewSize (length spaced.old) }
+    requires seated { AllSeated table.now spaced.old }
+    ensures count { length spaced.new ≡ length spaced.old }
+    ensures seated { AllSeated table.now spaced.new }
+    ensures extremal { AllExtremal D.side table.now.system spaced.new }
 {
-    let seats = benches.len();
+    let seats = spaced.len();
     thread::for_each_mut(
         rt,
-        benches,
+        spaced,
         seats,
-        &|k, bench: &mut Bench<D>|
-            requires { IsSync G.row × (k < seats) × (seats ≤ MOST_SEATS) × (points ≤ 2097152) × (points ≡ length table.now.system) × IsSeatOf table.now bench.now.seat }
-            ensures { IsSeatOf table.entry.now bench.exit.now.seat × IsExtremal D.side table.entry.now.system bench.exit.now.seat.seen }
-        { take_turn(table, bench, k, range_of(k, seats, points), gate) },
+        &|k, one: &mut Spaced<D>|
+            requires { IsSync G.row × (k < seats) × (seats ≤ MOST_SEATS) × (points ≤ MOST_POINTS) × (points ≡ length table.now.system) × IsSeatOf table.now one.now.seat }
+            ensures { IsSeatOf table.entry.now one.exit.now.seat × IsExtremal D.side table.entry.now.system one.exit.now.seat.seen }
+        { take_turn(table, one, k, range_of(k, seats, points), gate) },
     );
 }
 
 /// What the thread of a seat does. Its steps aren't counted.
 fn take_turn<D: Direction, G: Gate>(
     table: &SideTable<'_, D>,
-    bench: &mut Bench<D>,
+    one: &mut Spaced<D>,
     k: usize,
     range: (usize, usize),
     gate: &G,
 )
-    requires own { IsSeatOf table.now bench.old.seat }
+    requires own { IsSeatOf table.now one.old.seat }
     requires order { range.0 ≤ range.1 }
     requires within { range.1 ≤ length table.now.system }
-    ensures own { IsSeatOf table.now bench.new.seat }
-    ensures extremal { IsExtremal D.side table.now.system bench.new.seat.seen }
+    ensures own { IsSeatOf table.now one.new.seat }
+    ensures extremal { IsExtremal D.side table.now.system one.new.seat.seen }
 {
-    work::<D, Brand, G>(table, &mut bench.seat, k, range, gate, Blank::new(1));
+    work::<D, Brand, G>(table, &mut one.seat, k, range, gate, Blank::new(1));
 }
 
 /// What one seat does: it relaxes its range once, calling the gate after each point, settles its range, and settles all points.
@@ -169,19 +170,19 @@ fn first_sweep<D: Direction, L: Ledger, G: Gate>(
 }
 
 /// Joins all seats into one.
-fn joined<D: Direction>(table: &SideTable<'_, D>, mut benches: Vec<Bench<D>>) -> SideSeat<D>
-    requires some { 1 ≤ vec_len benches }
-    requires seated { AllSeated table.now benches.items }
-    requires extremal { AllExtremal D.side table.now.system benches.items }
+fn joined<D: Direction>(table: &SideTable<'_, D>, mut spaced: Vec<Spaced<D>>) -> SideSeat<D>
+    requires some { 1 ≤ vec_len spaced }
+    requires seated { AllSeated table.now spaced.items }
+    requires extremal { AllExtremal D.side table.now.system spaced.items }
     ensures own { IsSeatOf table.now result }
     ensures extremal { IsExtremal D.side table.now.system result.seen }
 {
-    let Some(last) = benches.pop() else {
+    let Some(last) = spaced.pop() else {
         unreachable!()
     };
     let mut seat = last.seat;
-    'more: while let Some(bench) = benches.pop() {
-        seat = table.join_sides(seat, bench.seat);
+    'more: while let Some(one) = spaced.pop() {
+        seat = table.join_sides(seat, one.seat);
     }
     seat
 }

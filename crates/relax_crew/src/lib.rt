@@ -8,7 +8,7 @@
 //! its threads.
 #![tactic(auto)]
 
-mod bench;
+mod spaced;
 mod ceil;
 mod crew;
 mod floor;

@@ -10,7 +10,7 @@ use Rattle.relax_system.specs.declared.points.Point.{Point}
 use Rattle.relax_system.specs.System.{point_at, no_point, IsValid}
 use Rattle.relax_system.specs.Means.{InBoxes}
 use Rattle.relax_system.specs.Sides.{Before, mean_of, start_of, starts_of}
-use Rattle.relax_system.specs.Way.{IsOnWay, room}
+use Rattle.relax_system.specs.Forms.Way.{IsOnWay, room}
 use Rattle.relax_system.proofs.SideMeans.{Before_refl, Before_trans, mean-low, mean-high, mean-mono}
 
 -- what holds of the entry that was set, and of each other one

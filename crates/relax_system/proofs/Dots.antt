@@ -6,7 +6,7 @@ use Rattle.std.proofs.lemmas.List.Sums.{sum_by-cons, sum_by_more, sum_by_more_le
 use Rattle.std.proofs.lemmas.Slice.Zip.{length-zip, get_or-zip}
 use Rattle.relax_system.specs.declared.points.Near.{Near}
 use Rattle.relax_system.specs.Means.{weighted_sum}
-use Rattle.relax_system.specs.Flat.{dot}
+use Rattle.relax_system.specs.Forms.Flat.{dot}
 
 abbrev pub dot_so_far : ℕ → List ℕ → List ℕ → List ℕ → ℕ
 dot_so_far k numbers weights v = sum_by (λ e. e.1 * slice_index v e.0) (take k (zip numbers weights))

@@ -9,7 +9,7 @@ use Rattle.relax_system.specs.declared.points.Point.{Point}
 use Rattle.relax_system.specs.System.{IsValid}
 use Rattle.relax_system.specs.Means.{InBoxes}
 use Rattle.relax_system.specs.Sides.{Before, AllBefore, mean_of, starts_of, IsQuiet, IsExtremal}
-use Rattle.relax_system.specs.Way.{IsOnWay, room}
+use Rattle.relax_system.specs.Forms.Way.{IsOnWay, room}
 use Rattle.relax_system.proofs.SideMeans.{Before_refl, Before_trans, Before_antisym, mean-low, mean-high, mean-mono}
 use Rattle.relax_system.proofs.Climbing.{IsOnWay-set, IsOnWay_start, InBoxes-set, at_set, room-set}
 

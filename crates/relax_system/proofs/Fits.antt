@@ -5,10 +5,12 @@ use Rattle.std.proofs.lemmas.Bool.{cases_lt}
 use Rattle.relax_system.specs.declared.side.Side.{Side}
 use Rattle.relax_system.specs.declared.side.Side.TheVariants.{Floor, Ceil}
 use Rattle.relax_system.specs.declared.points.Point.{Point}
+use Rattle.relax_system.specs.declared.valid.TheConstants.{MOST_COORDINATE}
 use Rattle.relax_system.specs.System.{total_weight, point_at, IsValid}
 use Rattle.relax_system.specs.Means.{InBoxes, pull}
-use Rattle.relax_system.specs.Sides.{mean_of, rounded}
-use Rattle.relax_system.specs.Narrow.{IsNarrow}
+use Rattle.relax_system.specs.Sides.{mean_of}
+use Rattle.relax_system.specs.Forms.Rounding.{rounded}
+use Rattle.relax_system.specs.Forms.Narrow.{IsNarrow}
 use Rattle.relax_system.proofs.Pulls.{pull-high}
 
 -- a product with a weight that is cut off at m is below m only where the whole product is
@@ -21,13 +23,13 @@ below_cut m w x h = ⊎_elim
     (λ (all : w ≤ m). let same : min w m ≡ w = omega arith in rw same at h)
     (cases_lt m w)
 
-pub pull_light : (points : List Point) (i : ℕ) (v : List ℕ) → IsValid points → i < length points → InBoxes points v → pull (point_at points i) v ≤ total_weight (point_at points i) * 2000000000000
+pub pull_light : (points : List Point) (i : ℕ) (v : List ℕ) → IsValid points → i < length points → InBoxes points v → pull (point_at points i) v ≤ total_weight (point_at points i) * MOST_COORDINATE
 pull_light points i v valid there boxes =
     omega (arith, pull-high points i (point_at points i) v (valid.each i there) refl boxes, mul-le-mul_left (total_weight (point_at points i)) (valid.each i there).limit)
 
 pub pull_wide : (points : List Point) (i : ℕ) (v : List ℕ) → IsValid points → i < length points → InBoxes points v → pull (point_at points i) v < 2 ^ 128
 pull_wide points i v valid there boxes =
-    omega (arith, pull_light points i v valid there boxes, mul-le-mul_right 2000000000000 (valid.each i there).light)
+    omega (arith, pull_light points i v valid there boxes, mul-le-mul_right MOST_COORDINATE (valid.each i there).light)
 
 pub pull_narrow : (points : List Point) (i : ℕ) (v : List ℕ) → IsValid points → IsNarrow points → i < length points → InBoxes points v → pull (point_at points i) v < 2 ^ 64
 pull_narrow points i v valid narrow there boxes =

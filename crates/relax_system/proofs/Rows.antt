@@ -10,24 +10,15 @@ use Rattle.relax_system.specs.declared.points.Point.{Point}
 use Rattle.relax_system.specs.declared.side.Side.{Side}
 use Rattle.relax_system.specs.System.{total_weight, point_at, no_point, IsValid}
 use Rattle.relax_system.specs.Means.{InBoxes, pull}
-use Rattle.relax_system.specs.Narrow.{IsNarrow}
-use Rattle.relax_system.specs.Sides.{rounded, mean_of}
-use Rattle.relax_system.specs.Flat.{near_numbers, near_weights, numbers_of, weights_of, dot, IsFlat, IsSoundRow}
+use Rattle.relax_system.specs.Forms.Narrow.{IsNarrow}
+use Rattle.relax_system.specs.Sides.{mean_of}
+use Rattle.relax_system.specs.Forms.Rounding.{rounded}
+use Rattle.relax_system.specs.Forms.Flat.{near_numbers, near_weights, numbers_of, weights_of, dot, IsFlat, IsSoundRow}
 use Rattle.relax_system.proofs.Dots.{dot-near}
 use Rattle.relax_system.proofs.Fits.{pull_light, pull_narrow, rounded-pull}
 
 flat_map_push : {X : Type 0} (f : X → List ℕ) (xs : List X) (x : X) → flat_map f (xs ++ x ∷ []) ≡ flat_map f xs ++ f x
 flat_map_push f xs x = flat_map-append f xs (x ∷ []) ∙ ap (λ ys. flat_map f xs ++ ys) (append-nil (f x))
-
-pub IsFlat_none : IsFlat [] (0 ∷ []) [] [] [] []
-IsFlat_none = record {
-  many = refl;
-  starting = λ k in'. let zero' : k ≡ 0 = omega arith in rw zero' refl;
-  numbered = refl;
-  weighted = refl;
-  summed = refl;
-  pulled = refl;
-}
 
 pub IsFlat_push : (points : List Point) (starts numbers weights totals anchored : List ℕ) (p : Point) → IsFlat points starts numbers weights totals anchored
     → IsFlat (points ++ p ∷ []) (starts ++ length (numbers ++ near_numbers p) ∷ []) (numbers ++ near_numbers p) (weights ++ near_weights p) (totals ++ total_weight p ∷ []) (anchored ++ p.anchored ∷ [])

@@ -6,7 +6,7 @@ use Rattle.relax_system.specs.declared.side.Side.{Side}
 use Rattle.relax_system.specs.declared.points.Point.{Point}
 use Rattle.relax_system.specs.System.{IsValid}
 use Rattle.relax_system.specs.Sides.{Before, mean_of}
-use Rattle.relax_system.specs.Way.{IsOnWay, room}
+use Rattle.relax_system.specs.Forms.Way.{IsOnWay, room}
 use Rattle.relax_system.proofs.Climbing.{IsOnWay-set, room-set}
 
 -- what is known of a sweep from the vector u up to the point i

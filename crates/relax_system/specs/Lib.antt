@@ -3,6 +3,4 @@ pub mod Means
 pub mod Extremal
 pub mod Exact
 pub mod Sides
-pub mod Narrow
-pub mod Flat
-pub mod Way
+pub mod Forms

@@ -1,6 +1,5 @@
 -- Both sides at once: from below with rounded-down means, and from above with rounded-up means.
-use Rattle.std.specs.Prelude.{ℕ, ◌/◌, ◌<◌, ◌≤◌, List, length, slice_index, map}
-use Rattle.std.specs.Int.{div_ceil}
+use Rattle.std.specs.Prelude.{ℕ, ◌<◌, ◌≤◌, List, length, slice_index, map}
 use Rattle.relax_system.specs.declared.side.Side.{Side}
 use Rattle.relax_system.specs.declared.side.Side.TheVariants.{Floor, Ceil}
 use Rattle.relax_system.specs.declared.points.Point.{Point}
@@ -10,11 +9,6 @@ use Rattle.relax_system.specs.Means.{floor_mean, ceil_mean, InBoxes}
 abbrev pub Before : Side → ℕ → ℕ → Type 0
 Before Floor a b = a ≤ b
 Before Ceil a b = b ≤ a
-
--- the quotient, rounded down or up
-abbrev pub rounded : Side → ℕ → ℕ → ℕ
-rounded Floor sum total = sum / total
-rounded Ceil sum total = div_ceil sum total
 
 -- the side's rounded mean of a point
 abbrev pub mean_of : Side → List Point → ℕ → List ℕ → ℕ

@@ -3,6 +3,7 @@ use Rattle.std.specs.Prelude.{◌≡◌, ◌≢◌, ℕ, ◌+◌, ◌*◌, ◌^�
 use Rattle.pad_reach.specs.Chain.{Joint}
 use Rattle.relax_system.specs.declared.points.Near.{Near}
 use Rattle.relax_system.specs.declared.points.Point.{Point}
+use Rattle.relax_system.specs.declared.valid.TheConstants.{MOST_POINTS, MOST_COORDINATE, MOST_WEIGHT}
 
 -- past the end there is no point: no box, no neighbour, no anchor
 abbrev pub no_point : Point
@@ -27,19 +28,19 @@ pub record IsValidNear (points : List Point) (i : ℕ) (n : Near) : Type 0 where
   pub same_hi : (point_at points n.point).hi ≡ (point_at points i).hi
   pub positive : 1 ≤ n.weight
 
--- The box isn't empty and lies within the range of coordinates. The total weight is from 1 to 2 ^ 40, and the anchored sum is that of constants in the box.
+-- The box isn't empty and lies within the range of coordinates. The total weight is at least 1 and at most the greatest one, and the anchored sum is that of constants in the box.
 pub record IsValidPoint (points : List Point) (i : ℕ) (p : Point) : Type 0 where
   pub ordered : p.lo ≤ p.hi
-  pub limit : p.hi ≤ 2000000000000
+  pub limit : p.hi ≤ MOST_COORDINATE
   pub near : All (IsValidNear points i) p.near
   pub joined : 1 ≤ total_weight p
-  pub light : total_weight p ≤ 2 ^ 40
+  pub light : total_weight p ≤ MOST_WEIGHT
   pub anchored_low : p.anchor * p.lo ≤ p.anchored
   pub anchored_high : p.anchored ≤ p.anchor * p.hi
 
--- A valid system: at most 2,097,152 points, each of them valid.
+-- A valid system: at most so many points, each of them valid.
 pub record IsValid (points : List Point) : Type 0 where
-  pub few : length points ≤ 2097152
+  pub few : length points ≤ MOST_POINTS
   pub each : (i : ℕ) → i < length points → IsValidPoint points i (point_at points i)
 
 -- The system as a web: a point is anchored where its anchor weight is at least 1.

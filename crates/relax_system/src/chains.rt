@@ -1,3 +1,5 @@
+//! A system as a web, for the search for chains to a pad.
+
 ghost use Rattle.relax_system.specs.System.{joints_of};
 
 use crate::system::System;

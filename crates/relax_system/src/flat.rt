@@ -1,12 +1,13 @@
 //! A system in flat arrays, for the sweeps: no call in their loop takes memory or looks a point up.
 
 ghost use Rattle.std.specs.Prelude.{◌≡◌, ℕ, ◌+◌, ◌*◌, ◌^◌, ◌<◌, ◌≤◌, ◌≢◌, ◌++◌, length, map, slice_index, slice_range, All, IsTrue, IfOk, OnOk, MatchBool};
-ghost use Rattle.relax_system.specs.Flat.{dot, IsSoundRow};
+ghost use Rattle.relax_system.specs.Forms.Flat.{dot, IsSoundRow};
 ghost use Rattle.relax_system.specs.Means.{InBoxes};
-ghost use Rattle.relax_system.specs.Narrow.{IsNarrow};
-ghost use Rattle.relax_system.specs.Sides.{mean_of, rounded, Before, IsQuiet};
+ghost use Rattle.relax_system.specs.Forms.Narrow.{IsNarrow};
+ghost use Rattle.relax_system.specs.Sides.{mean_of, Before, IsQuiet};
+ghost use Rattle.relax_system.specs.Forms.Rounding.{rounded};
 ghost use Rattle.relax_system.specs.System.{IsValid};
-ghost use Rattle.relax_system.specs.Way.{IsOnWay, room};
+ghost use Rattle.relax_system.specs.Forms.Way.{IsOnWay, room};
 
 use crate::mean::{narrow_quotient, wide_quotient};
 use crate::points::Near;
@@ -31,7 +32,7 @@ pub(crate) struct Flat<'a> {
 impl<'a> Model for Flat<'a> {
     ghost use Rattle.std.specs.Prelude.{List};
     ghost use Rattle.relax_system.specs.declared.points.Point.{Point};
-    ghost use Rattle.relax_system.specs.Flat.{IsFlat};
+    ghost use Rattle.relax_system.specs.Forms.Flat.{IsFlat};
 
     ghost Value = { List Point };
 

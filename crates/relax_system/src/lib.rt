@@ -1,4 +1,4 @@
-//! Systems of rounded point equations: behind the network and before the tables that solve them.
+//! Systems of rounded point equations: behind the search for chains and the network, before the tables that solve them.
 //!
 //! A system has points with boxes, neighbours with weights, and anchors. Its equations are those of a resistive network
 //! with fixed pads (R.-S. Tsay, E. S. Kuh, C.-P. Hsu, PROUD, IEEE Design & Test of Computers, 1988), one single-point
@@ -27,7 +27,7 @@ pub use plain::{greatest_plain, least_plain};
 pub use points::{Near, NearList, Point, Points};
 pub use side::Side;
 pub use system::System;
-pub use valid::is_valid;
+pub use valid::{MOST_COORDINATE, MOST_POINTS, MOST_WEIGHT, is_valid};
 pub use values::Values;
 
 #[cfg(test)]

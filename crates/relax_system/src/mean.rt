@@ -2,10 +2,11 @@
 
 ghost use Rattle.std.specs.Prelude.{◌≡◌, ◌+◌, ◌*◌, ◌^◌, ◌<◌, ◌≤◌, length, All};
 ghost use Rattle.relax_system.specs.Means.{weighted_sum};
-ghost use Rattle.relax_system.specs.Sides.{rounded};
+ghost use Rattle.relax_system.specs.Forms.Rounding.{rounded};
 
 use crate::points::Near;
 use crate::side::Side;
+use crate::valid::MOST_COORDINATE;
 
 /// The sum of weight times coordinate over the neighbours, and `anchored`.
 #[inline(always)]
@@ -51,7 +52,7 @@ pub(crate) fn narrow_quotient(side: Side, sum: u64, total: u64) -> u64
 #[inline(always)]
 pub(crate) fn wide_quotient(side: Side, sum: u128, total: u64) -> u64
     requires positive { 1 ≤ total }
-    requires fits { sum ≤ total * 2000000000000 }
+    requires fits { sum ≤ total * MOST_COORDINATE }
     ensures { result ≡ rounded side sum total }
 {
     let total = u128::from(total);

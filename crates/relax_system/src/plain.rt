@@ -11,14 +11,15 @@ use crate::values::Values;
 use book_text::Memory;
 use std::alloc::Global;
 
-/// The least vector: the pre-fixed vector that is at most every pre-fixed vector of the boxes.
+/// The least vector: the pre-fixed vector that is at most every pre-fixed vector of the boxes. Only want of memory is refused.
 pub fn least_plain(alloc: Global, system: &System) -> Result<Values, Memory>
     ensures { IfOk result (IsLeast system.now) }
 {
     solve(alloc, Side::Floor, system)
 }
 
-/// The greatest vector: the post-fixed vector that is at least every post-fixed vector of the boxes.
+/// The greatest vector: the post-fixed vector that is at least every post-fixed vector of the boxes. Only want of memory is
+/// refused.
 pub fn greatest_plain(alloc: Global, system: &System) -> Result<Values, Memory>
     ensures { IfOk result (IsGreatest system.now) }
 {

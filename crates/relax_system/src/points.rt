@@ -1,3 +1,5 @@
+//! Points with their neighbours, and lists of either.
+
 ghost use Rattle.std.specs.Prelude.{◌≡◌, ◌-◌, ◌^◌, ◌++◌, [], ◌∷◌, min, OnOk, OnErr};
 ghost use Rattle.relax_system.specs.System.{near_weight, total_weight};
 
@@ -8,7 +10,9 @@ use std::marker::Model;
 /// A neighbour of a point and the weight of the pair.
 #[derive(Clone, Copy, Debug, PartialEq, Eq)]
 pub struct Near {
+    /// The neighbour's number in the system.
     pub point: u32,
+    /// The weight of the pair, at least 1 in a valid system.
     pub weight: u64,
 }
 
@@ -69,7 +73,7 @@ impl NearList {
     }
 }
 
-/// A point of a system.
+/// A point of a system: its box, its neighbours and its constants.
 #[derive(Drop)]
 pub struct Point {
     /// The bottom of the box.

@@ -1,3 +1,5 @@
+//! From below or from above.
+
 /// From which side a system is solved.
 #[derive(Clone, Copy, Debug, PartialEq, Eq)]
 pub enum Side {

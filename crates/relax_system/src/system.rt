@@ -1,7 +1,9 @@
+//! Valid systems, their means, and tests of a vector.
+
 ghost use Rattle.std.specs.Prelude.{◌≡◌, ℕ, ◌<◌, ◌≤◌, ◌↔◌, length, IsTrue};
 ghost use Rattle.relax_system.specs.System.{IsValid, IsValidPoint, point_at};
 ghost use Rattle.relax_system.specs.Means.{InBoxes, IsPreFixed, IsPostFixed, floor_mean, ceil_mean};
-ghost use Rattle.relax_system.specs.Narrow.{IsNarrow, IsNarrowPoint};
+ghost use Rattle.relax_system.specs.Forms.Narrow.{IsNarrow, IsNarrowPoint};
 ghost use Rattle.relax_system.specs.Sides.{mean_of, IsQuiet};
 
 use crate::mean::{narrow_pull, narrow_quotient, wide_pull, wide_quotient};
@@ -20,7 +22,7 @@ pub struct System {
 impl Model for System {
     ghost use Rattle.std.specs.Prelude.{List};
     ghost use Rattle.relax_system.specs.declared.points.Point.{Point};
-    ghost use Rattle.relax_system.specs.Narrow.{IsSystem};
+    ghost use Rattle.relax_system.specs.Forms.Narrow.{IsSystem};
 
     ghost Value = { List Point };
 

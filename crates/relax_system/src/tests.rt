@@ -3,9 +3,9 @@
 ghost use Rattle.std.specs.Prelude.{◌<◌, length, IsTrue};
 ghost use Rattle.relax_system.specs.Means.{InBoxes};
 
-use crate::{Near, NearList, Point, Points, System, greatest_plain, is_valid, least_plain};
+use crate::{Near, NearList, Point, Points, System, Values, greatest_plain, is_valid, least_plain};
 use book_text::Memory;
-use pad_reach::Web;
+use pad_reach::{ReachError, Web, reach};
 use std::alloc::Global;
 use std::process::Abort;
 use std::test::Fail;
@@ -185,5 +185,24 @@ fn rounds(rt: HostRuntime) -> Result<(), Fail> {
         assert_eq!(rt; system.is_ceil_quiet(v), ceil_quiet);
     }
     assert_eq!(rt; first_neighbour(&system, 1), Some((0, true)));
+    Ok(())
+}
+
+#[test]
+fn searches_for_chains(rt: HostRuntime) -> Result<(), Fail> {
+    let held = system_of(&rt, rt.alloc(), &PAIR)?;
+    assert!(rt; reach(rt.alloc(), &held).is_ok());
+    let loose = system_of(&rt, rt.alloc(), &UNANCHORED)?;
+    assert!(rt; matches!(reach(rt.alloc(), &loose), Err(ReachError::Unanchored(0))));
+    Ok(())
+}
+
+#[test]
+fn a_vector_keeps_its_entries(rt: HostRuntime) -> Result<(), Fail> {
+    let mut v = Values::new(rt.alloc());
+    assert!(rt; v.as_slice().is_empty());
+    v.push(7)?;
+    v.push(3)?;
+    assert_eq!(rt; v.as_slice(), [7, 3].as_slice());
     Ok(())
 }

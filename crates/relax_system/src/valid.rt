@@ -1,16 +1,18 @@
+//! The rule of a valid system, and its limits.
+
 ghost use Rattle.std.specs.Prelude.{◌≡◌, ℕ, ◌*◌, ◌<◌, ◌≤◌, ◌↔◌, length, All, IsTrue};
 ghost use Rattle.relax_system.specs.System.{IsValid, IsValidPoint, IsValidNear, point_at, total_weight};
 
 use crate::points::{Near, Point};
 
-/// The greatest number of points in a system.
-const MOST_POINTS: usize = 2_097_152;
+/// The most points that a system may have.
+pub const MOST_POINTS: usize = 2_097_152;
 
-/// The greatest coordinate.
-const MOST_COORDINATE: u64 = 2_000_000_000_000;
+/// The greatest coordinate that a box may reach.
+pub const MOST_COORDINATE: u64 = 2_000_000_000_000;
 
-/// The greatest total weight of a point.
-const MOST_WEIGHT: u64 = 1 << 40;
+/// The greatest total weight of a point: its neighbours' weights and its constants' together.
+pub const MOST_WEIGHT: u64 = 1 << 40;
 
 /// Whether the points make a valid system. It takes no memory.
 pub fn is_valid(points: &[Point]) -> bool

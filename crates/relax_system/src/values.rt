@@ -1,3 +1,5 @@
+//! Vectors that the plain solvers answer.
+
 ghost use Rattle.std.specs.Prelude.{◌≡◌, ◌++◌, [], ◌∷◌, OnOk, OnErr};
 
 use book_text::Memory;

@@ -10,18 +10,18 @@ use Rattle.relax_system.specs.Sides.{AllBefore}
 use Rattle.relax_system.specs.System.{point_at, IsValid}
 use Rattle.relax_system.proofs.Extremes.{extremal_there}
 use Rattle.relax_system.proofs.Sided.{IsLeast-from_extremal, IsGreatest-from_extremal}
-use Rattle.relax_table.specs.Ways.{apart, distance, IsBound, IsQuietIn}
+use Rattle.relax_table.specs.Ways.{apart, distance, IsQuietVector, IsQuietIn}
 use Rattle.relax_table.proofs.Numbers.{apart-within}
 use Rattle.relax_table.proofs.Distances.{distance-wide}
 use Rattle.relax_table.specs.Seats.{SeatState, IsSound, Advances}
 use Rattle.relax_table.specs.Floor.{IsFloorStart, IsBelowLeast, Rises}
 use Rattle.relax_table.specs.Ceil.{IsCeilStart, IsAboveGreatest, Falls}
 
-pub pre_fixed_bound : {points : List Point} {u : List ℕ} → IsLeast points u → IsBound Floor points u
-pre_fixed_bound h = record { in_boxes = h.in_boxes; quiet = h.pre_fixed }
+pub pre_fixed_vector : {points : List Point} {u : List ℕ} → IsLeast points u → IsQuietVector Floor points u
+pre_fixed_vector h = record { in_boxes = h.in_boxes; quiet = h.pre_fixed }
 
-pub post_fixed_bound : {points : List Point} {u : List ℕ} → IsGreatest points u → IsBound Ceil points u
-post_fixed_bound h = record { in_boxes = h.in_boxes; quiet = h.post_fixed }
+pub post_fixed_vector : {points : List Point} {u : List ℕ} → IsGreatest points u → IsQuietVector Ceil points u
+post_fixed_vector h = record { in_boxes = h.in_boxes; quiet = h.post_fixed }
 
 pub below_least : {s : SeatState} → IsSound Floor s → IsBelowLeast s
 below_least h = record {
@@ -29,7 +29,7 @@ below_least h = record {
   in_boxes = h.in_boxes;
   from_start = h.started;
   below = λ u boxes quiet. h.first u (record { in_boxes = boxes; quiet = quiet });
-  raises = λ v least. h.paid v (pre_fixed_bound least);
+  raises = λ v least. h.paid v (pre_fixed_vector least);
 }
 
 pub above_greatest : {s : SeatState} → IsSound Ceil s → IsAboveGreatest s
@@ -38,7 +38,7 @@ above_greatest h = record {
   in_boxes = h.in_boxes;
   from_start = h.started;
   above = λ u boxes quiet. h.first u (record { in_boxes = boxes; quiet = quiet });
-  lowers = λ v greatest. h.paid v (post_fixed_bound greatest);
+  lowers = λ v greatest. h.paid v (post_fixed_vector greatest);
 }
 
 pub rises_of : {old new : SeatState} → Advances Floor old new → Rises old new
@@ -46,34 +46,6 @@ rises_of h = record { same_table = h.same_table; same_system = h.same_system; sa
 
 pub falls_of : {old new : SeatState} → Advances Ceil old new → Falls old new
 falls_of h = record { same_table = h.same_table; same_system = h.same_system; same_start = h.same_start; counts = h.counts; not_higher = h.further; above_greatest = above_greatest h.sound }
-
-pub floor_first : {points : List Point} {start : List ℕ} → IsFloorStart points start → (u : List ℕ) → IsBound Floor points u → AllBefore Floor start u
-floor_first h u bound = h.below u bound.in_boxes bound.quiet
-
-pub ceil_first : {points : List Point} {start : List ℕ} → IsCeilStart points start → (u : List ℕ) → IsBound Ceil points u → AllBefore Ceil start u
-ceil_first h u bound = h.above u bound.in_boxes bound.quiet
-
--- a seat that is quiet at all points has seen the extremal vector
-pub least_of : {s : SeatState} → IsBelowLeast s → IsPreFixed s.system s.seen → IsLeast s.system s.seen
-least_of h quiet = record { in_boxes = h.in_boxes; pre_fixed = quiet; least = h.below }
-
-pub greatest_of : {s : SeatState} → IsAboveGreatest s → IsPostFixed s.system s.seen → IsGreatest s.system s.seen
-greatest_of h quiet = record { in_boxes = h.in_boxes; post_fixed = quiet; greatest = h.above }
-
--- the same after a sweep over all points
-pub settled_least : (points : List Point) (s : SeatState) → s.system ≡ points → IsSound Floor s → IsQuietIn Floor points 0 (length points) s.seen → IsLeast points s.seen
-settled_least points s same h quiet = record {
-  in_boxes = rw (← same) h.in_boxes;
-  pre_fixed = λ i there. quiet i (omega arith) there;
-  least = λ u boxes fixed. h.first u (rw same (record { in_boxes = boxes; quiet = fixed }));
-}
-
-pub settled_greatest : (points : List Point) (s : SeatState) → s.system ≡ points → IsSound Ceil s → IsQuietIn Ceil points 0 (length points) s.seen → IsGreatest points s.seen
-settled_greatest points s same h quiet = record {
-  in_boxes = rw (← same) h.in_boxes;
-  post_fixed = λ i there. quiet i (omega arith) there;
-  greatest = λ u boxes fixed. h.first u (rw same (record { in_boxes = boxes; quiet = fixed }));
-}
 
 few : (side : Side) (points : List Point) (start u : List ℕ) (moves width : ℕ) → InBoxes points start → InBoxes points u → moves ≤ distance side start u → ((i : ℕ) → i < length points → (point_at points i).hi - (point_at points i).lo ≤ width) → moves ≤ length points * width
 few side points start u moves width boxes boxes' paid wide =

@@ -1,4 +1,4 @@
--- Each kind of step keeps the rule of a table, and what it tells.
+-- Each kind of step keeps the rule of a table, and leaves what it says.
 use Rattle.std.proofs.Common.{◌≡◌, ℕ, ◌<◌, ◌≤◌, max, min, List, [], ◌∷◌, ◌++◌, length, zero, suc, set, false, refl, sym, ap, ◌∙◌, subst, ⊎_elim, arith}
 use Rattle.std.specs.List.{slice_index}
 use Rattle.std.proofs.lemmas.List.Sums.{sum_by-append}
@@ -17,11 +17,11 @@ use Rattle.relax_system.specs.Means.{InBoxes}
 use Rattle.relax_system.specs.Sides.{AllBefore, mean_of}
 use Rattle.relax_system.proofs.SideMeans.{Before_refl, Before_trans, mean-low, mean-high, mean-mono}
 use Rattle.relax_table.specs.declared.rule.View.{View}
-use Rattle.relax_table.specs.Ways.{further_of, IsBound}
+use Rattle.relax_table.specs.Ways.{further_of, IsQuietVector}
 use Rattle.relax_table.specs.Step.{word_after}
 use Rattle.relax_table.specs.Step.Kind.{Load, Renew}
 use Rattle.relax_table.specs.Seats.{IsSound}
-use Rattle.relax_table.specs.Rule.{state_of, all_moves, IsInStep, Keeps, stepped_view, Told, Learned, sprout, joined, gone, opened}
+use Rattle.relax_table.specs.Forms.Rule.{state_of, all_moves, IsInStep, Keeps, stepped_view, Stepped, Learned, sprout, joined, gone, opened}
 use Rattle.relax_table.proofs.Numbers.{further-first, further-within, further-low, further-high, counted_apart}
 use Rattle.relax_table.proofs.Vectors.{AllBefore-refl, at_furthest, length-furthest}
 use Rattle.relax_table.proofs.Sounds.{sound_of, IsMove, keeps_moved, moved_in_step, all_moves-set}
@@ -36,7 +36,7 @@ load_move side points start words views i v kept there = record {
   further = Before_refl side (slice_index words i);
   low = kept.in_boxes.low i there;
   high = kept.in_boxes.high i there;
-  first = λ u bound. kept.first u bound i;
+  first = λ u calm. kept.first u calm i;
   system = refl;
   start = refl;
   seen = refl;
@@ -56,10 +56,10 @@ renew_move side points start words views i v kept step there =
       further = further-first side w (mean_of side v.system i v.seen);
       low = rw same (further-low side w m (point_at points i).lo (kept.in_boxes.low i there) low);
       high = rw same (further-high side w m (point_at points i).hi (kept.in_boxes.high i there) high);
-      first = λ u bound. rw same (further-within side w m (slice_index u i) (kept.first u bound i)
+      first = λ u calm. rw same (further-within side w m (slice_index u i) (kept.first u calm i)
           (Before_trans side m (mean_of side points i u) (slice_index u i)
-          (mean-mono side points i v.seen u kept.valid there (λ k. Before_trans side _ _ _ (step.behind k) (kept.first u bound k)))
-          (bound.quiet i there)));
+          (mean-mono side points i v.seen u kept.valid there (λ k. Before_trans side _ _ _ (step.behind k) (kept.first u calm k)))
+          (calm.quiet i there)));
       system = refl;
       start = refl;
       seen = refl;
@@ -79,7 +79,7 @@ sound_moved side points start words views id i x v w name kept at step move =
     (set_here views id w (there_of views id v at)) (moved_in_step side points start words views i x v w kept step move)
 
 pub loads_allowed : (side : Side) (points : List Point) (start : List ℕ) (slots id i : ℕ) (me : Me ℕ View) → i < length points → me.0.spent ≡ false
-    → Allows (Ruled side points start) slots id me i (λ n. n) (λ x w. (w.1 ≡ me.1) × Told side Load i me.0 x w.0)
+    → Allows (Ruled side points start) slots id me i (λ n. n) (λ x w. (w.1 ≡ me.1) × Stepped side Load i me.0 x w.0)
 loads_allowed side points start slots id i me there unspent s kept homes at fits =
     let x : ℕ = slice_index s.words i in
     let step = kept.each id me.0 at unspent in
@@ -92,7 +92,7 @@ loads_allowed side points start slots id i me there unspent s kept homes at fits
     )
 
 pub renews_allowed : (side : Side) (points : List Point) (start : List ℕ) (slots id i m : ℕ) (me : Me ℕ View) → i < length points → me.0.spent ≡ false → m ≡ mean_of side me.0.system i me.0.seen
-    → Allows (Ruled side points start) slots id me i (λ n. further_of side n m) (λ x w. (w.1 ≡ me.1) × Told side Renew i me.0 x w.0)
+    → Allows (Ruled side points start) slots id me i (λ n. further_of side n m) (λ x w. (w.1 ≡ me.1) × Stepped side Renew i me.0 x w.0)
 renews_allowed side points start slots id i m me there unspent e s kept homes at fits =
     let x : ℕ = slice_index s.words i in
     let step = kept.each id me.0 at unspent in
@@ -140,20 +140,20 @@ splits_allowed side points start id v unspent s kept at =
 
 -- the same with the fetch of each side
 pub renews_up_allowed : (side : Side) (points : List Point) (start : List ℕ) (slots id i m : ℕ) (me : Me ℕ View) → side ≡ Floor → i < length points → me.0.spent ≡ false → m ≡ mean_of side me.0.system i me.0.seen
-    → Allows (Ruled side points start) slots id me i (λ n. max n m) (λ x w. (w.1 ≡ me.1) × Told side Renew i me.0 x w.0)
+    → Allows (Ruled side points start) slots id me i (λ n. max n m) (λ x w. (w.1 ≡ me.1) × Stepped side Renew i me.0 x w.0)
 renews_up_allowed side points start slots id i m me is there unspent e =
-    subst (λ (z : Side). Allows (Ruled side points start) slots id me i (λ n. further_of z n m) (λ x w. (w.1 ≡ me.1) × Told side Renew i me.0 x w.0)) is (renews_allowed side points start slots id i m me there unspent e)
+    subst (λ (z : Side). Allows (Ruled side points start) slots id me i (λ n. further_of z n m) (λ x w. (w.1 ≡ me.1) × Stepped side Renew i me.0 x w.0)) is (renews_allowed side points start slots id i m me there unspent e)
 
 pub renews_down_allowed : (side : Side) (points : List Point) (start : List ℕ) (slots id i m : ℕ) (me : Me ℕ View) → side ≡ Ceil → i < length points → me.0.spent ≡ false → m ≡ mean_of side me.0.system i me.0.seen
-    → Allows (Ruled side points start) slots id me i (λ n. min n m) (λ x w. (w.1 ≡ me.1) × Told side Renew i me.0 x w.0)
+    → Allows (Ruled side points start) slots id me i (λ n. min n m) (λ x w. (w.1 ≡ me.1) × Stepped side Renew i me.0 x w.0)
 renews_down_allowed side points start slots id i m me is there unspent e =
-    subst (λ (z : Side). Allows (Ruled side points start) slots id me i (λ n. further_of z n m) (λ x w. (w.1 ≡ me.1) × Told side Renew i me.0 x w.0)) is (renews_allowed side points start slots id i m me there unspent e)
+    subst (λ (z : Side). Allows (Ruled side points start) slots id me i (λ n. further_of z n m) (λ x w. (w.1 ≡ me.1) × Stepped side Renew i me.0 x w.0)) is (renews_allowed side points start slots id i m me there unspent e)
 
 one_view : (side : Side) (points : List Point) (start words : List ℕ) (v : View) → IsInStep side points start words v → (k : ℕ) (z : View) → get_elem? (v ∷ []) k ≡ some z → IsInStep side points start words z
 one_view side points start words v step zero z e = subst (λ (y : View). IsInStep side points start words y) (some-injective v z e) step
 one_view side points start words v step (suc k) z e = absurd (some-ne-none z (sym e))
 
-pub opening_keeps : (side : Side) (points : List Point) (start : List ℕ) → IsValid points → InBoxes points start → ((u : List ℕ) → IsBound side points u → AllBefore side start u) → Keeps side points start start (opened points start ∷ [])
+pub opening_keeps : (side : Side) (points : List Point) (start : List ℕ) → IsValid points → InBoxes points start → ((u : List ℕ) → IsQuietVector side points u → AllBefore side start u) → Keeps side points start start (opened points start ∷ [])
 opening_keeps side points start valid boxes first =
     let step : IsInStep side points start start (opened points start) = record { same_system = refl; same_start = refl; in_boxes = boxes; started = AllBefore-refl side start; behind = AllBefore-refl side start } in
     record {

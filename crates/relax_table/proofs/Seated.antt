@@ -1,59 +1,60 @@
 -- A seat between calls: what a step leaves of it.
-use Rattle.std.proofs.Common.{◌≡◌, ℕ, ◌+◌, ◌-◌, ◌*◌, ◌^◌, ◌<◌, ◌≤◌, List, length, set, refl, ap, ◌∙◌, arith}
+use Rattle.std.proofs.Common.{◌≡◌, ℕ, ◌+◌, ◌-◌, ◌*◌, ◌^◌, ◌<◌, ◌≤◌, List, [], ◌++◌, append_assoc, length, set, refl, sym, ap, ◌∙◌, arith}
 use Rattle.std.specs.List.{slice_index}
-use Rattle.std.proofs.lemmas.List.{get_or-set_same}
+use Rattle.std.proofs.lemmas.List.{get_or-set_same, append-nil}
 use Rattle.atomic_table.specs.Seated.{TableId}
 use Rattle.relax_system.specs.declared.side.Side.{Side}
 use Rattle.relax_system.specs.declared.points.Point.{Point}
+use Rattle.relax_system.specs.declared.valid.TheConstants.{MOST_COORDINATE}
 use Rattle.relax_system.specs.System.{point_at}
 use Rattle.relax_system.specs.Sides.{Before, IsExtremal, mean_of}
 use Rattle.relax_system.proofs.SideMeans.{Before_trans}
 use Rattle.relax_system.proofs.Extremes.{extremal_there}
 use Rattle.relax_table.specs.declared.rule.View.{View}
-use Rattle.relax_table.specs.Ways.{is_past, one_if, apart, distance, IsBound, IsQuietIn}
+use Rattle.relax_table.specs.Ways.{is_past, one_if, apart, distance, IsQuietVector, IsQuietIn}
 use Rattle.relax_table.specs.Step.{word_after}
 use Rattle.relax_table.specs.Step.Kind.{Load, Renew}
-use Rattle.relax_table.specs.Seats.{SeatState, IsSound, Advances}
-use Rattle.relax_table.specs.Rule.{state_of, Told, IsHeld, sprout, joined, furthest, Learned}
+use Rattle.relax_table.specs.Seats.{SeatState, IsSound, Advances, Continues}
+use Rattle.relax_table.specs.Forms.Rule.{state_of, Stepped, IsHeld, sprout, joined, furthest, Learned}
 use Rattle.relax_table.proofs.Numbers.{further-first, further-second, apart-within}
 use Rattle.relax_table.proofs.Distances.{distance-wide}
 use Rattle.relax_table.proofs.Vectors.{AllBefore-refl, AllBefore-trans, AllBefore-set, mean_of-set, at_furthest}
 
-pub held_loaded : (side : Side) (id id' : TableId) (v w : View) (seen : List ℕ) (moves i x : ℕ) → IsHeld side id v seen moves → Told side Load i v x w → IsHeld side id' w (set seen i x) moves
-held_loaded side id id' v w seen moves i x held told = record {
-  same_seen = rw told.view (ap (λ (s : List ℕ). set s i x) held.same_seen);
-  same_moves = rw told.view held.same_moves;
-  unspent = rw told.view held.unspent;
-  sound = told.sound id';
+pub held_loaded : (side : Side) (id id' : TableId) (v w : View) (seen : List ℕ) (moves i x : ℕ) → IsHeld side id v seen moves → Stepped side Load i v x w → IsHeld side id' w (set seen i x) moves
+held_loaded side id id' v w seen moves i x held stepped = record {
+  same_seen = rw stepped.view (ap (λ (s : List ℕ). set s i x) held.same_seen);
+  same_moves = rw stepped.view held.same_moves;
+  unspent = rw stepped.view held.unspent;
+  sound = stepped.sound id';
 }
 
-pub held_renewed : (side : Side) (id id' : TableId) (v w : View) (seen : List ℕ) (moves moves' i x y : ℕ) → IsHeld side id v seen moves → Told side Renew i v x w → y ≡ word_after side v.system Renew i x v.seen → moves' ≡ moves + one_if (is_past side x y)
+pub held_renewed : (side : Side) (id id' : TableId) (v w : View) (seen : List ℕ) (moves moves' i x y : ℕ) → IsHeld side id v seen moves → Stepped side Renew i v x w → y ≡ word_after side v.system Renew i x v.seen → moves' ≡ moves + one_if (is_past side x y)
     → IsHeld side id' w (set seen i y) moves'
-held_renewed side id id' v w seen moves moves' i x y held told e f = record {
-  same_seen = rw (told.view, e) (ap (λ (s : List ℕ). set s i (word_after side v.system Renew i x v.seen)) held.same_seen);
-  same_moves = rw (told.view, f, e, held.same_moves) refl;
-  unspent = rw told.view held.unspent;
-  sound = told.sound id';
+held_renewed side id id' v w seen moves moves' i x y held stepped e f = record {
+  same_seen = rw (stepped.view, e) (ap (λ (s : List ℕ). set s i (word_after side v.system Renew i x v.seen)) held.same_seen);
+  same_moves = rw (stepped.view, f, e, held.same_moves) refl;
+  unspent = rw stepped.view held.unspent;
+  sound = stepped.sound id';
 }
 
-pub advances_loaded : (side : Side) (id id' : TableId) (v w : View) (i x : ℕ) → id' ≡ id → i < length v.seen → Told side Load i v x w → Advances side (state_of id v) (state_of id' w)
-advances_loaded side id id' v w i x same there told = record {
+pub advances_loaded : (side : Side) (id id' : TableId) (v w : View) (i x : ℕ) → id' ≡ id → i < length v.seen → Stepped side Load i v x w → Advances side (state_of id v) (state_of id' w)
+advances_loaded side id id' v w i x same there stepped = record {
   same_table = same;
-  same_system = ap (λ (z : View). z.system) told.view;
-  same_start = ap (λ (z : View). z.start) told.view;
-  counts = rw told.view (record { loads = omega arith; fetches = omega arith; moves = omega arith });
-  further = rw told.view (AllBefore-set side v.seen v.seen i x (AllBefore-refl side v.seen) there told.found);
-  sound = told.sound id';
+  same_system = ap (λ (z : View). z.system) stepped.view;
+  same_start = ap (λ (z : View). z.start) stepped.view;
+  counts = rw stepped.view (record { loads = omega arith; fetches = omega arith; moves = omega arith });
+  further = rw stepped.view (AllBefore-set side v.seen v.seen i x (AllBefore-refl side v.seen) there stepped.found);
+  sound = stepped.sound id';
 }
 
-pub advances_renewed : (side : Side) (id id' : TableId) (v w : View) (i x : ℕ) → id' ≡ id → i < length v.seen → Told side Renew i v x w → Advances side (state_of id v) (state_of id' w)
-advances_renewed side id id' v w i x same there told = record {
+pub advances_renewed : (side : Side) (id id' : TableId) (v w : View) (i x : ℕ) → id' ≡ id → i < length v.seen → Stepped side Renew i v x w → Advances side (state_of id v) (state_of id' w)
+advances_renewed side id id' v w i x same there stepped = record {
   same_table = same;
-  same_system = ap (λ (z : View). z.system) told.view;
-  same_start = ap (λ (z : View). z.start) told.view;
-  counts = rw told.view (record { loads = omega arith; fetches = omega arith; moves = omega arith });
-  further = rw told.view (AllBefore-set side v.seen v.seen i _ (AllBefore-refl side v.seen) there (Before_trans side _ _ _ told.found (further-first side x (mean_of side v.system i v.seen))));
-  sound = told.sound id';
+  same_system = ap (λ (z : View). z.system) stepped.view;
+  same_start = ap (λ (z : View). z.start) stepped.view;
+  counts = rw stepped.view (record { loads = omega arith; fetches = omega arith; moves = omega arith });
+  further = rw stepped.view (AllBefore-set side v.seen v.seen i _ (AllBefore-refl side v.seen) there (Before_trans side _ _ _ stepped.found (further-first side x (mean_of side v.system i v.seen))));
+  sound = stepped.sound id';
 }
 
 pub advances_none : (side : Side) (s : SeatState) → IsSound side s → Advances side s s
@@ -76,6 +77,16 @@ advances_on side a b c h k = record {
   sound = k.sound;
 }
 
+pub continues_none : (s : SeatState) → Continues s s
+continues_none s = record { parts = refl; looked = ([], sym (append-nil s.looked)); renewed = ([], sym (append-nil s.renewed)) }
+
+pub continues_on : (a b c : SeatState) → Continues a b → Continues b c → Continues a c
+continues_on a b c h k = record {
+  parts = k.parts ∙ h.parts;
+  looked = (h.looked.0 ++ k.looked.0, rw (k.looked.1, h.looked.1) (append_assoc a.looked h.looked.0 k.looked.0));
+  renewed = (h.renewed.0 ++ k.renewed.0, rw (k.renewed.1, h.renewed.1) (append_assoc a.renewed h.renewed.0 k.renewed.0));
+}
+
 -- the mean of a point that was renewed stands before its entry
 pub renewed_quiet : (side : Side) (points : List Point) (v : List ℕ) (s : SeatState) (i x y : ℕ) → IsSound side s → s.system ≡ points → i < length points → i < length v → y ≡ word_after side points Renew i x v
     → Before side (mean_of side points i (set v i y)) (slice_index (set v i y) i)
@@ -86,14 +97,14 @@ renewed_quiet side points v s i x y sound same there inside e =
 pub moves-few : (side : Side) (s : SeatState) → IsSound side s → s.moves + 1 < 2 ^ 63
 moves-few side s sound =
     let u = extremal_there side s.system sound.valid in
-    let bound : IsBound side s.system u.0 = record { in_boxes = u.1.in_boxes; quiet = u.1.quiet } in
-    let wide : distance side s.start u.0 ≤ length s.start * 2000000000000 =
-    distance-wide side s.start u.0 2000000000000 (omega (arith, sound.start_boxes.all, u.1.in_boxes.all)) (λ i there.
+    let calm : IsQuietVector side s.system u.0 = record { in_boxes = u.1.in_boxes; quiet = u.1.quiet } in
+    let wide : distance side s.start u.0 ≤ length s.start * MOST_COORDINATE =
+    distance-wide side s.start u.0 MOST_COORDINATE (omega (arith, sound.start_boxes.all, u.1.in_boxes.all)) (λ i there.
     let inside : i < length s.system = omega (arith, sound.start_boxes.all) in
     let near : apart side (slice_index s.start i) (slice_index u.0 i) ≤ (point_at s.system i).hi - (point_at s.system i).lo =
     apart-within side (slice_index s.start i) (slice_index u.0 i) (point_at s.system i).lo (point_at s.system i).hi (sound.start_boxes.low i inside) (sound.start_boxes.high i inside) (u.1.in_boxes.low i inside) (u.1.in_boxes.high i inside) in
     omega (arith, (sound.valid.each i inside).limit)) in
-    omega (arith, sound.paid u.0 bound, sound.valid.few, sound.start_boxes.all)
+    omega (arith, sound.paid u.0 calm, sound.valid.few, sound.start_boxes.all)
 
 -- a seat that is split off
 pub held_sprout : (side : Side) (id id' : TableId) (v w : View) (seen seen' : List ℕ) (moves : ℕ) → IsHeld side id v seen moves → seen' ≡ seen → w ≡ sprout v → IsHeld side id' w seen' 0
@@ -107,14 +118,14 @@ held_sprout side id id' v w seen seen' moves held same e = record {
     in_boxes = held.sound.in_boxes;
     started = held.sound.started;
     first = held.sound.first;
-    paid = λ u bound. omega arith;
+    paid = λ u calm. omega arith;
   });
 }
 
 -- the same of a view after its renewal
-pub told_quiet : (side : Side) (points : List Point) (id : TableId) (v w : View) (i x : ℕ) → IsSound side (state_of id v) → v.system ≡ points → i < length points → i < length v.seen → Told side Renew i v x w → Before side (mean_of side points i w.seen) (slice_index w.seen i)
-told_quiet side points id v w i x sound same there inside told =
-    rw told.view (renewed_quiet side points v.seen (state_of id v) i x _ sound same there inside (ap (λ (p : List Point). word_after side p Renew i x v.seen) same))
+pub stepped_quiet : (side : Side) (points : List Point) (id : TableId) (v w : View) (i x : ℕ) → IsSound side (state_of id v) → v.system ≡ points → i < length points → i < length v.seen → Stepped side Renew i v x w → Before side (mean_of side points i w.seen) (slice_index w.seen i)
+stepped_quiet side points id v w i x sound same there inside stepped =
+    rw stepped.view (renewed_quiet side points v.seen (state_of id v) i x _ sound same there inside (ap (λ (p : List Point). word_after side p Renew i x v.seen) same))
 
 -- one seat of two
 pub held_joined : (side : Side) (id id' name : TableId) (v w j l : View) (seen seen' both : List ℕ) (moves moves' : ℕ) → IsHeld side id v seen moves → IsHeld side id' w seen' moves' → j ≡ joined side v w → Learned side j l → both ≡ furthest side seen seen'

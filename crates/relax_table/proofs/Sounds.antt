@@ -1,4 +1,4 @@
--- What the rule of a table tells of one seat, and that a step keeps it.
+-- What the rule of a table says of one seat, and that a step keeps it.
 use Rattle.std.proofs.Common.{◌≡◌, ℕ, ◌+◌, ◌<◌, ◌≤◌, List, [], ◌∷◌, length, zero, suc, set, refl, sym, ap, subst, ⊎_elim, arith}
 use Rattle.std.specs.List.{slice_index}
 use Rattle.std.proofs.lemmas.List.{length-set}
@@ -14,9 +14,9 @@ use Rattle.relax_system.specs.Sides.{Before, AllBefore}
 use Rattle.relax_system.proofs.SideMeans.{Before_trans}
 use Rattle.relax_system.proofs.Climbing.{InBoxes-set}
 use Rattle.relax_table.specs.declared.rule.View.{View}
-use Rattle.relax_table.specs.Ways.{apart, distance, IsBound}
+use Rattle.relax_table.specs.Ways.{apart, distance, IsQuietVector}
 use Rattle.relax_table.specs.Seats.{IsSound}
-use Rattle.relax_table.specs.Rule.{state_of, all_moves, IsInStep, Keeps}
+use Rattle.relax_table.specs.Forms.Rule.{state_of, all_moves, IsInStep, Keeps}
 use Rattle.relax_table.proofs.Distances.{distance-add, distance-grows, distance_to_set}
 use Rattle.relax_table.proofs.Vectors.{AllBefore-trans, AllBefore-set, AllBefore-set_first, AllBefore-set_both, AllBefore-refl}
 
@@ -48,10 +48,10 @@ sound_of side points start words views k v id keeps at step = record {
   start_boxes = rw (step.same_system, step.same_start) keeps.start_boxes;
   in_boxes = rw step.same_system step.in_boxes;
   started = rw step.same_start step.started;
-  first = λ u bound. AllBefore-trans side v.seen words u step.behind (keeps.first u (rw step.same_system at bound));
-  paid = λ u bound.
-      let bound' : IsBound side points u = rw step.same_system at bound in
-      let grows : distance side start words ≤ distance side start u = distance-grows side start words u (omega (arith, keeps.start_boxes.all, keeps.in_boxes.all)) (omega (arith, keeps.in_boxes.all, bound'.in_boxes.all)) keeps.started (keeps.first u bound') in
+  first = λ u calm. AllBefore-trans side v.seen words u step.behind (keeps.first u (rw step.same_system at calm));
+  paid = λ u calm.
+      let calm' : IsQuietVector side points u = rw step.same_system at calm in
+      let grows : distance side start words ≤ distance side start u = distance-grows side start words u (omega (arith, keeps.start_boxes.all, keeps.in_boxes.all)) (omega (arith, keeps.in_boxes.all, calm'.in_boxes.all)) keeps.started (keeps.first u calm') in
       let mine : v.moves ≤ distance side start u = omega (arith, moves-le-all views k v at, keeps.paid) in
       rw step.same_start mine;
 }
@@ -62,7 +62,7 @@ pub record IsMove (side : Side) (points : List Point) (words : List ℕ) (i x : 
   pub further : Before side (slice_index words i) x
   pub low : (point_at points i).lo ≤ x
   pub high : x ≤ (point_at points i).hi
-  pub first : (u : List ℕ) → IsBound side points u → Before side x (slice_index u i)
+  pub first : (u : List ℕ) → IsQuietVector side points u → Before side x (slice_index u i)
   pub system : w.system ≡ v.system
   pub start : w.start ≡ v.start
   pub seen : w.seen ≡ set v.seen i x
@@ -102,7 +102,7 @@ keeps_moved side points start words views id i x v w keeps at step move =
       start_boxes = keeps.start_boxes;
       in_boxes = InBoxes-set points words i x keeps.in_boxes move.there move.low move.high;
       started = started;
-      first = λ u bound. AllBefore-set_first side words u i x (keeps.first u bound) there' (move.first u bound);
+      first = λ u calm. AllBefore-set_first side words u i x (keeps.first u calm) there' (move.first u calm);
       each = λ k z here unspent. ⊎_elim
           (λ same. subst (λ (y : View). IsInStep side points start (set words i x) y) same.1 (moved_in_step side points start words views i x v w keeps step move))
           (λ other. other_in_step side points start words views i x z keeps move.there move.further (keeps.each k z other.1 unspent))

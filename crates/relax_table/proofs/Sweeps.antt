@@ -1,8 +1,8 @@
 -- Looks, relaxations and sweeps: what is known of a seat along the way.
-use Rattle.std.proofs.Common.{slice_index_or, ◌≡◌, ◌≢◌, ℕ, ◌+◌, ◌-◌, ◌*◌, ◌<◌, ◌≤◌, List, length, take, drop, set, Bool, true, false, ◌||◌, MatchBool, refl, sym, ap, ◌∙◌, ⊎_elim, arith}
+use Rattle.std.proofs.Common.{slice_index_or, ◌≡◌, ◌≢◌, ℕ, ◌+◌, ◌-◌, ◌*◌, ◌<◌, ◌≤◌, List, [], ◌∷◌, ◌++◌, append_assoc, length, map, take, drop, set, Bool, true, false, ◌||◌, MatchBool, refl, sym, ap, ◌∙◌, ⊎_elim, arith}
 use Rattle.std.specs.List.{slice_index, sum_by, All}
 use Rattle.std.proofs.lemmas.List.{get_or-set_other}
-use Rattle.std.proofs.lemmas.List.{get_or-drop, length-drop, get_or-map, get_or_past, length-map}
+use Rattle.std.proofs.lemmas.List.{get_or-drop, length-drop, get_or-map, get_or_past, length-map, take_more, take_all}
 use Rattle.std.proofs.lemmas.List.Sums.{sum_by_more}
 use Rattle.std.proofs.Math.Nat.{add-mul, mul-le-mul_right}
 use Rattle.std.proofs.lemmas.Bool.{cases_eq, cases_lt, false≢true}
@@ -15,14 +15,14 @@ use Rattle.relax_system.specs.System.{point_at, no_point, IsValid}
 use Rattle.relax_system.specs.Sides.{Before, AllBefore, mean_of}
 use Rattle.relax_system.specs.Means.{InBoxes}
 use Rattle.relax_system.proofs.SideMeans.{Before_refl}
-use Rattle.relax_table.specs.Ways.{distance, end_of, ends_of, IsBound, IsQuietIn}
+use Rattle.relax_table.specs.Ways.{distance, IsQuietVector, IsQuietIn}
 use Rattle.relax_table.specs.Step.{word_after}
 use Rattle.relax_table.specs.Step.Kind.{Renew}
 use Rattle.relax_table.proofs.Vectors.{mean_of-set}
-use Rattle.relax_table.specs.Seats.{TableState, SeatState, IsSeatOf, IsSound, Advances, sweep_steps}
+use Rattle.relax_table.specs.Seats.{TableState, SeatState, IsSeatOf, IsSound, Advances, Continues, sweep_steps}
 use Rattle.relax_table.proofs.Numbers.{apart-positive}
 use Rattle.relax_table.proofs.Distances.{distance-add, distance_to_set}
-use Rattle.relax_table.proofs.Seated.{advances_on, advances_none}
+use Rattle.relax_table.proofs.Seated.{advances_on, advances_none, continues_on, continues_none}
 
 -- whether a vector went on, or stayed as it was
 abbrev pub WentOn : Side → Bool → List ℕ → List ℕ → Type 0
@@ -52,28 +52,32 @@ pub record IsLooked (side : Side) (near : List Near) (t : TableState) (old new :
   pub loads : new.loads ≡ old.loads + n
   pub fetches : new.fetches ≡ old.fetches
   pub moves : new.moves ≡ old.moves
+  pub looked : new.looked ≡ old.looked ++ take n (map (λ e. e.point) near)
+  pub rest : (new.renewed ≡ old.renewed) × (new.parts ≡ old.parts)
   pub others : (j : ℕ) → All (λ e. e.point ≢ j) near → slice_index new.seen j ≡ slice_index old.seen j
   pub all : length old.seen ≡ length new.seen
   pub went : WentOn side moved old.seen new.seen
   pub steps : now ≡ first + n
 
-pub looked_none : (side : Side) (near : List Near) (t : TableState) (s : SeatState) (steps : ℕ) → IsSeatOf t s → IsSound side s → IsLooked side near t s s steps steps 0 false
-looked_none side near t s steps own sound = record {
-  own = own;
-  advances = advances_none side s sound;
-  loads = omega arith;
-  fetches = refl;
-  moves = refl;
-  others = λ j h. refl;
-  all = refl;
-  went = went_none side s.seen;
-  steps = omega arith;
-}
+-- one more neighbour's number
+looks_more : (near : List Near) (n j : ℕ) (d : Near) → n < length near → j ≡ (slice_index_or near n d).point → take (n + 1) (map (λ (e : Near). e.point) near) ≡ take n (map (λ (e : Near). e.point) near) ++ j ∷ []
+looks_more near n j d more at =
+    let f : Near → ℕ = λ e. e.point in
+    let inside : n < length (map f near) = omega (arith, length-map near f) in
+    let here : slice_index_or (map f near) n d.point ≡ j = get_or-map f near n d d.point more ∙ sym at in
+    take_more (map f near) n d.point inside ∙ ap (λ (k : ℕ). take n (map f near) ++ k ∷ []) here
+
+-- the looks at all neighbours
+pub looked_all : (side : Side) (near : List Near) (t : TableState) (old new : SeatState) (first now n : ℕ) (moved : Bool) → IsLooked side near t old new first now n moved → length near ≤ n → new.looked ≡ old.looked ++ map (λ e. e.point) near
+looked_all side near t old new first now n moved h all =
+    let f : Near → ℕ = λ e. e.point in
+    let whole : take n (map f near) ≡ map f near = take_all n (map f near) (omega (arith, length-map near f)) in
+    h.looked ∙ ap (λ (l : List ℕ). old.looked ++ l) whole
 
 pub looked_more : (side : Side) (near : List Near) (t : TableState) (old mid new : SeatState) (steps steps' steps'' n j x y : ℕ) (moved b : Bool) (d : Near) → IsLooked side near t old mid steps steps' n moved → n < length near → j ≡ (slice_index_or near n d).point → j < length mid.seen
-    → IsSeatOf t new → Advances side mid new → new.seen ≡ set mid.seen j x → (new.loads ≡ mid.loads + 1) × (new.fetches ≡ mid.fetches) × (new.moves ≡ mid.moves) → steps'' ≡ steps' + 1 → Before side (slice_index mid.seen j) x
+    → IsSeatOf t new → Advances side mid new → new.seen ≡ set mid.seen j x → (new.loads ≡ mid.loads + 1) × (new.fetches ≡ mid.fetches) × (new.moves ≡ mid.moves) → (new.looked ≡ mid.looked ++ j ∷ []) × (new.renewed ≡ mid.renewed) × (new.parts ≡ mid.parts) → steps'' ≡ steps' + 1 → Before side (slice_index mid.seen j) x
     → y ≡ slice_index mid.seen j → MatchBool b (x ≢ y) (x ≡ y) → IsLooked side near t old new steps steps'' (n + 1) (moved || b)
-looked_more side near t old mid new steps steps' steps'' n j x y moved b d h more at there own advances seen counts one found e differ =
+looked_more side near t old mid new steps steps' steps'' n j x y moved b d h more at there own advances seen counts points one found e differ =
     let on = advances_on side old mid new h.advances advances in
     let same : length mid.seen ≡ length new.seen = seen_all side mid new h.advances.sound advances in
     record {
@@ -82,6 +86,8 @@ looked_more side near t old mid new steps steps' steps'' n j x y moved b d h mor
       loads = omega (arith, h.loads, counts.0);
       fetches = counts.1 ∙ h.fetches;
       moves = counts.2 ∙ h.moves;
+      looked = rw (points.0, h.looked, looks_more near n j d more at) (append_assoc old.looked (take n (map (λ (e : Near). e.point) near)) (j ∷ []));
+      rest = (points.1 ∙ h.rest.0, points.2 ∙ h.rest.1);
       others = λ k apart'. rw seen (get_or-set_other mid.seen j k x 0 (λ same. apart' n d more (sym at ∙ sym same)) ∙ h.others k apart');
       all = h.all ∙ same;
       went = went_both side old.seen mid.seen new.seen moved b h.all same h.advances.further advances.further h.went (rw seen (went_set side mid.seen j x y b there found e differ));
@@ -123,20 +129,10 @@ pub record IsSweptTo (side : Side) (t : TableState) (from i : ℕ) (old new : Se
   pub advances : Advances side old new
   pub counted : now + (old.loads + old.fetches) ≡ first + (new.loads + new.fetches)
   pub cost : now ≡ first + sweep_steps t.system from i
+  pub continues : Continues old new
   pub all : length old.seen ≡ length new.seen
   pub went : WentOn side moved old.seen new.seen
   pub quiet : moved ≡ false → IsQuietIn side t.system from i new.seen
-
-pub swept_none : (side : Side) (t : TableState) (from : ℕ) (s : SeatState) (first : ℕ) → IsSeatOf t s → IsSound side s → IsSweptTo side t from from s s first first false
-swept_none side t from s first own sound = record {
-  own = own;
-  advances = advances_none side s sound;
-  counted = refl;
-  cost = omega (arith, sweep_steps-none t.system from);
-  all = refl;
-  went = went_none side s.seen;
-  quiet = λ none i low high. absurd (omega arith);
-}
 
 none_of : (a b : Bool) → (a || b) ≡ false → (a ≡ false) × (b ≡ false)
 none_of true b e = (e, absurd (false≢true (sym e)))
@@ -148,14 +144,15 @@ still side false u v e h = h
 
 pub swept_more : (side : Side) (t : TableState) (from i : ℕ) (old mid new : SeatState) (first now now' : ℕ) (moved b : Bool) → IsSweptTo side t from i old mid first now moved → from ≤ i → i < length t.system → IsSeatOf t new → Advances side mid new
     → (new.loads ≡ mid.loads + length (point_at t.system i).near) × (new.fetches ≡ mid.fetches + 1) → Before side (mean_of side t.system i new.seen) (slice_index new.seen i) → WentOn side b mid.seen new.seen
-    → now' ≡ now + (length (point_at t.system i).near + 1) → IsSweptTo side t from (i + 1) old new first now' (moved || b)
-swept_more side t from i old mid new first now now' moved b h order there own advances counts quiet went steps =
+    → now' ≡ now + (length (point_at t.system i).near + 1) → Continues mid new → IsSweptTo side t from (i + 1) old new first now' (moved || b)
+swept_more side t from i old mid new first now now' moved b h order there own advances counts quiet went steps continues =
     let same : length mid.seen ≡ length new.seen = seen_all side mid new h.advances.sound advances in
     record {
       own = own;
       advances = advances_on side old mid new h.advances advances;
       counted = omega (arith, h.counted, counts.0, counts.1);
       cost = omega (arith, h.cost, sweep_steps-more t.system from i order there);
+      continues = continues_on old mid new h.continues continues;
       all = h.all ∙ same;
       went = went_both side old.seen mid.seen new.seen moved b h.all same h.advances.further advances.further h.went went;
       quiet = λ none k low high.
@@ -166,50 +163,55 @@ swept_more side t from i old mid new first now now' moved b h order there own ad
           (cases_eq k i);
     }
 
--- a sweep's end, as its contract says it
-pub swept_end : (side : Side) (t : TableState) (from to : ℕ) (old new : SeatState) (first now : ℕ) (moved : Bool) → IsSweptTo side t from to old new first now moved → MatchBool moved (1 ≤ distance side old.seen new.seen) (IsQuietIn side t.system from to new.seen)
-swept_end side t from to old new first now true h = h.went
-swept_end side t from to old new first now false h = h.quiet refl
-
 -- what is known after any number of sweeps that moved
 pub record IsSettling (side : Side) (t : TableState) (cost : ℕ) (old new : SeatState) (first now : ℕ) : Type 0 where
   pub own : IsSeatOf t new
   pub advances : Advances side old new
+  pub continues : Continues old new
   pub counted : now + (old.loads + old.fetches) ≡ first + (new.loads + new.fetches)
-  pub within : (u : List ℕ) → IsBound side t.system u → now + distance side new.seen u * cost ≤ first + distance side old.seen u * cost
+  pub within : (u : List ℕ) → IsQuietVector side t.system u → now + distance side new.seen u * cost ≤ first + distance side old.seen u * cost
 
 pub settling_none : (side : Side) (t : TableState) (cost : ℕ) (s : SeatState) (first : ℕ) → IsSeatOf t s → IsSound side s → IsSettling side t cost s s first first
-settling_none side t cost s first own sound = record { own = own; advances = advances_none side s sound; counted = refl; within = λ u bound. omega arith }
+settling_none side t cost s first own sound = record { own = own; advances = advances_none side s sound; continues = continues_none s; counted = refl; within = λ u calm. omega arith }
+
+-- where the side's way ends at the latest
+abbrev pub end_of : Side → Point → ℕ
+end_of Floor p = p.hi
+end_of Ceil p = p.lo
+
+abbrev pub ends_of : Side → List Point → List ℕ
+ends_of side points = map (end_of side) points
 
 -- what is left of the way falls where the seat goes on
 pub left-falls : (side : Side) (mid new : SeatState) (u : List ℕ) → IsSound side mid → Advances side mid new → length new.seen ≡ length u → AllBefore side new.seen u → 1 ≤ distance side mid.seen new.seen → distance side new.seen u + 1 ≤ distance side mid.seen u
 left-falls side mid new u sound advances all before went = omega (arith, distance-add side mid.seen new.seen u (seen_all side mid new sound advances) all advances.further before)
 
 pub settling_more : (side : Side) (t : TableState) (cost : ℕ) (old mid new : SeatState) (first now now' : ℕ) → IsSettling side t cost old mid first now → IsSeatOf t new → Advances side mid new → now' + (mid.loads + mid.fetches) ≡ now + (new.loads + new.fetches) → now' ≡ now + cost
-    → 1 ≤ distance side mid.seen new.seen → IsSettling side t cost old new first now'
-settling_more side t cost old mid new first now now' h own advances counted steps went = record {
+    → 1 ≤ distance side mid.seen new.seen → Continues mid new → IsSettling side t cost old new first now'
+settling_more side t cost old mid new first now now' h own advances counted steps went continues = record {
+  continues = continues_on old mid new h.continues continues;
   own = own;
   advances = advances_on side old mid new h.advances advances;
   counted = omega (arith, h.counted);
-  within = λ u bound.
-      let bound' : IsBound side new.system u = rw own.same_system bound in
-      let all : length new.seen ≡ length u = omega (arith, advances.sound.in_boxes.all, bound'.in_boxes.all) in
-      let less : distance side new.seen u + 1 ≤ distance side mid.seen u = left-falls side mid new u h.advances.sound advances all (advances.sound.first u bound') went in
+  within = λ u calm.
+      let calm' : IsQuietVector side new.system u = rw own.same_system calm in
+      let all : length new.seen ≡ length u = omega (arith, advances.sound.in_boxes.all, calm'.in_boxes.all) in
+      let less : distance side new.seen u + 1 ≤ distance side mid.seen u = left-falls side mid new u h.advances.sound advances all (advances.sound.first u calm') went in
       let product : (distance side new.seen u + 1) * cost ≤ distance side mid.seen u * cost = mul-le-mul_right cost less in
       let spread : (distance side new.seen u + 1) * cost ≡ distance side new.seen u * cost + cost = add-mul (distance side new.seen u) 1 cost ∙ omega arith in
-      omega (arith, h.within u bound);
+      omega (arith, h.within u calm);
 }
 
 -- the quiet sweep at the end costs one more
-pub settled_cost : (side : Side) (t : TableState) (cost : ℕ) (old mid new : SeatState) (first now now' : ℕ) (u : List ℕ) → IsSound side old → IsSeatOf t old → IsSettling side t cost old mid first now → now' ≡ now + cost → IsBound side t.system u
+pub settled_cost : (side : Side) (t : TableState) (cost : ℕ) (old mid new : SeatState) (first now now' : ℕ) (u : List ℕ) → IsSound side old → IsSeatOf t old → IsSettling side t cost old mid first now → now' ≡ now + cost → IsQuietVector side t.system u
     → now' ≤ first + (distance side t.start u + 2) * cost
-settled_cost side t cost old mid new first now now' u sound own h steps bound =
-    let bound' : IsBound side old.system u = rw own.same_system bound in
-    let less : distance side old.seen u ≤ distance side old.start u = omega (arith, distance-add side old.start old.seen u (omega (arith, sound.start_boxes.all, sound.in_boxes.all)) (omega (arith, sound.in_boxes.all, bound'.in_boxes.all)) sound.started (sound.first u bound')) in
+settled_cost side t cost old mid new first now now' u sound own h steps calm =
+    let calm' : IsQuietVector side old.system u = rw own.same_system calm in
+    let less : distance side old.seen u ≤ distance side old.start u = omega (arith, distance-add side old.start old.seen u (omega (arith, sound.start_boxes.all, sound.in_boxes.all)) (omega (arith, sound.in_boxes.all, calm'.in_boxes.all)) sound.started (sound.first u calm')) in
     let start : distance side old.start u ≡ distance side t.start u = ap (λ (s : List ℕ). distance side s u) own.same_start in
     let product : (distance side old.seen u + 2) * cost ≤ (distance side t.start u + 2) * cost = mul-le-mul_right cost (omega arith) in
     let spread : (distance side old.seen u + 2) * cost ≡ distance side old.seen u * cost + (cost + cost) = add-mul (distance side old.seen u) 2 cost ∙ omega arith in
-    omega (arith, h.within u bound)
+    omega (arith, h.within u calm)
 
 end-after : (side : Side) (p : Point) (x : ℕ) → p.lo ≤ x → x ≤ p.hi → Before side x (end_of side p)
 end-after Floor p x low high = high

@@ -14,7 +14,7 @@ use Rattle.relax_system.specs.System.{point_at, total_weight, IsValid, IsValidNe
 use Rattle.relax_system.specs.Means.{weighted_sum, pull}
 use Rattle.relax_system.specs.Sides.{Before, AllBefore, mean_of}
 use Rattle.relax_table.specs.Ways.{further_of}
-use Rattle.relax_table.specs.Rule.{furthest}
+use Rattle.relax_table.specs.Forms.Rule.{furthest}
 use Rattle.relax_system.proofs.SideMeans.{Before_refl, Before_trans}
 use Rattle.relax_system.proofs.Climbing.{at_set}
 

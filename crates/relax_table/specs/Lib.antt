@@ -3,4 +3,4 @@ pub mod Step
 pub mod Seats
 pub mod Floor
 pub mod Ceil
-pub mod Rule
+pub mod Forms

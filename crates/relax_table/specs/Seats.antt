@@ -1,12 +1,12 @@
 -- What clauses see of a table and of a seat.
-use Rattle.std.specs.Prelude.{◌≡◌, ◌≢◌, ℕ, ◌+◌, ◌-◌, ◌≤◌, List, length, take, drop, sum_by, All}
+use Rattle.std.specs.Prelude.{◌≡◌, ◌≢◌, ℕ, ◌+◌, ◌-◌, ◌≤◌, List, ◌++◌, length, map, take, drop, sum_by, All}
 use Rattle.atomic_table.specs.Seated.{TableId}
 use Rattle.relax_system.specs.declared.side.Side.{Side}
 use Rattle.relax_system.specs.declared.points.Point.{Point}
 use Rattle.relax_system.specs.System.{point_at, IsValid}
 use Rattle.relax_system.specs.Means.{InBoxes}
 use Rattle.relax_system.specs.Sides.{AllBefore}
-use Rattle.relax_table.specs.Ways.{distance, IsBound}
+use Rattle.relax_table.specs.Ways.{distance, IsQuietVector}
 
 -- which table it is, its system, and the vector that it was made with
 pub record TableState : Type 0 where
@@ -14,16 +14,21 @@ pub record TableState : Type 0 where
   pub system : List Point
   pub start : List ℕ
 
--- A seat's table with its system and start, what the seat has seen, and its counts: loads, fetches, and the moves,
--- which are the fetches that changed a word.
+-- A seat's table with its system and start, what the seat has seen, and what it did: the points whose words it loaded and
+-- those whose words it fetched, each in order, how many loads and fetches these are, and the moves, which are the fetches
+-- that changed a word. Then how many seats it is made of, and the word that its last step found.
 pub record SeatState : Type 0 where
   pub table : TableId
   pub system : List Point
   pub start : List ℕ
   pub seen : List ℕ
+  pub looked : List ℕ
+  pub renewed : List ℕ
   pub loads : ℕ
   pub fetches : ℕ
   pub moves : ℕ
+  pub parts : ℕ
+  pub found : ℕ
 
 pub record IsSeatOf (t : TableState) (s : SeatState) : Type 0 where
   pub same_table : s.table ≡ t.id
@@ -36,14 +41,24 @@ pub record IsSound (side : Side) (s : SeatState) : Type 0 where
   pub start_boxes : InBoxes s.system s.start
   pub in_boxes : InBoxes s.system s.seen
   pub started : AllBefore side s.start s.seen
-  pub first : (u : List ℕ) → IsBound side s.system u → AllBefore side s.seen u
-  pub paid : (u : List ℕ) → IsBound side s.system u → s.moves ≤ distance side s.start u
+  pub first : (u : List ℕ) → IsQuietVector side s.system u → AllBefore side s.seen u
+  pub paid : (u : List ℕ) → IsQuietVector side s.system u → s.moves ≤ distance side s.start u
 
 -- no count fell
 pub record CountsOn (old new : SeatState) : Type 0 where
   pub loads : old.loads ≤ new.loads
   pub fetches : old.fetches ≤ new.fetches
   pub moves : old.moves ≤ new.moves
+
+-- the one list is a front of the other
+abbrev pub IsFront : List ℕ → List ℕ → Type 0
+IsFront front whole = (rest : List ℕ) × (whole ≡ front ++ rest)
+
+-- It is still made of as many seats, and its new steps come after those that it had made.
+pub record Continues (old new : SeatState) : Type 0 where
+  pub parts : new.parts ≡ old.parts
+  pub looked : IsFront old.looked new.looked
+  pub renewed : IsFront old.renewed new.renewed
 
 -- A call left the seat at its table, with no entry back on its way.
 pub record Advances (side : Side) (old new : SeatState) : Type 0 where
@@ -57,6 +72,10 @@ pub record Advances (side : Side) (old new : SeatState) : Type 0 where
 -- the points from the one number to the other, and the entries of their neighbours
 abbrev pub sweep_steps : List Point → ℕ → ℕ → ℕ
 sweep_steps points from to = sum_by (λ p. length p.near + 1) (take (to - from) (drop from points))
+
+-- the numbers of a point's neighbours, one for each entry
+abbrev pub near_numbers : List Point → ℕ → List ℕ
+near_numbers points i = map (λ n. n.point) (point_at points i).near
 
 -- no entry of this point is among the neighbours of the point i
 abbrev pub IsNoNeighbour : List Point → ℕ → ℕ → Type 0

@@ -1,12 +1,11 @@
 -- The two ways of a table: upwards from the bottoms with greater numbers, and downwards from the tops with smaller ones.
-use Rattle.std.specs.Prelude.{ℕ, ◌-◌, ◌<◌, ◌≤◌, List, map, max, min, sum_by, Bool, true, false, nat_lt}
-use Rattle.std.specs.List.{zip}
+use Rattle.std.specs.Prelude.{ℕ, ◌-◌, ◌<◌, ◌≤◌, List, max, min, sum_by, Bool, true, false, nat_lt}
+use Rattle.std.specs.List.{slice_index, zip}
 use Rattle.relax_system.specs.declared.side.Side.{Side}
 use Rattle.relax_system.specs.declared.side.Side.TheVariants.{Floor, Ceil}
 use Rattle.relax_system.specs.declared.points.Point.{Point}
 use Rattle.relax_system.specs.Means.{InBoxes}
 use Rattle.relax_system.specs.Sides.{Before, IsQuiet, mean_of}
-use Rattle.std.specs.List.{slice_index}
 
 -- of two coordinates the one that stands further on the way
 abbrev pub further_of : Side → ℕ → ℕ → ℕ
@@ -31,16 +30,8 @@ apart Ceil a b = a - b
 abbrev pub distance : Side → List ℕ → List ℕ → ℕ
 distance side u v = sum_by (λ e. apart side e.0 e.1) (zip u v)
 
--- where the side's way ends at the latest
-abbrev pub end_of : Side → Point → ℕ
-end_of Floor p = p.hi
-end_of Ceil p = p.lo
-
-abbrev pub ends_of : Side → List Point → List ℕ
-ends_of side points = map (end_of side) points
-
 -- a quiet vector of the boxes: a pre-fixed one going up, a post-fixed one going down
-pub record IsBound (side : Side) (points : List Point) (u : List ℕ) : Type 0 where
+pub record IsQuietVector (side : Side) (points : List Point) (u : List ℕ) : Type 0 where
   pub in_boxes : InBoxes points u
   pub quiet : IsQuiet side points u
 

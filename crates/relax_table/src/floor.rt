@@ -1,6 +1,6 @@
 //! Floor tables. Their words rise from a start towards the least vector.
 
-ghost use Rattle.std.specs.Prelude.{◌≡◌, ◌≢◌, ℕ, ◌+◌, ◌*◌, ◌<◌, ◌≤◌, max, List, length, slice_index, slice_set, nat_lt, IfOk, OnErr};
+ghost use Rattle.std.specs.Prelude.{◌≡◌, ◌≢◌, [], ◌∷◌, ◌++◌, ℕ, ◌+◌, ◌*◌, ◌<◌, ◌≤◌, max, List, length, slice_index, slice_set, nat_lt, IfOk, OnErr};
 ghost use Rattle.relax_system.specs.Means.{floor_mean, InBoxes, IsPreFixed};
 ghost use Rattle.relax_system.specs.Extremal.{IsLeast};
 ghost use Rattle.relax_system.specs.System.{point_at};
@@ -8,7 +8,7 @@ ghost use Rattle.relax_system.specs.declared.side.Side.TheVariants.{Floor};
 ghost use Rattle.relax_table.specs.Ways.{one_if};
 ghost use Rattle.relax_table.specs.Step.{word_after, seen_after};
 ghost use Rattle.relax_table.specs.Step.Kind.{Load, Renew};
-ghost use Rattle.relax_table.specs.Seats.{IsSeatOf, IsNoNeighbour, sweep_steps};
+ghost use Rattle.relax_table.specs.Seats.{IsSeatOf, Continues, IsNoNeighbour, near_numbers, sweep_steps};
 ghost use Rattle.relax_table.specs.Floor.{IsFloorStart, rise, IsBelowLeast, Rises};
 
 use crate::direction::Up;
@@ -62,7 +62,7 @@ impl<'a> SideTable<'a, Up> {
         requires { IsFloorStart system.now start.now }
         ensures table { IfOk result (λ t. (t.0.system ≡ system.now) × (t.0.start ≡ start.now)) }
         ensures own { IfOk result (λ t. IsSeatOf t.0 t.1) }
-        ensures seat { IfOk result (λ t. (t.1.seen ≡ start.now) × (t.1.loads ≡ 0) × (t.1.fetches ≡ 0) × (t.1.moves ≡ 0)) }
+        ensures seat { IfOk result (λ t. (t.1.seen ≡ start.now) × (t.1.loads ≡ 0) × (t.1.fetches ≡ 0) × (t.1.moves ≡ 0) × (t.1.parts ≡ 1)) }
         ensures below { IfOk result (λ t. IsBelowLeast t.1) }
     {
         SideTable::over(alloc, system, start)
@@ -75,7 +75,7 @@ impl<'a> SideTable<'a, Up> {
         requires { IsSeatOf self.now seat.old }
         ensures same { seat.new ≡ seat.old }
         ensures own { IfOk result (IsSeatOf self.now) }
-        ensures seat { IfOk result (λ s. (s.seen ≡ seat.old.seen) × (s.loads ≡ 0) × (s.fetches ≡ 0) × (s.moves ≡ 0)) }
+        ensures seat { IfOk result (λ s. (s.seen ≡ seat.old.seen) × (s.loads ≡ 0) × (s.fetches ≡ 0) × (s.moves ≡ 0) × (s.parts ≡ 1)) }
         ensures below { IfOk result IsBelowLeast }
     {
         self.split_side(seat)
@@ -88,7 +88,7 @@ impl<'a> SideTable<'a, Up> {
         requires other { IsSeatOf self.now other }
         ensures own { IsSeatOf self.now result }
         ensures seen { (i : ℕ) → slice_index result.seen i ≡ max (slice_index seat.seen i) (slice_index other.seen i) }
-        ensures counts { (result.loads ≡ seat.loads + other.loads) × (result.fetches ≡ seat.fetches + other.fetches) }
+        ensures counts { (result.loads ≡ seat.loads + other.loads) × (result.fetches ≡ seat.fetches + other.fetches) × (result.parts ≡ seat.parts + other.parts) }
         ensures raises { result.moves ≡ seat.moves + other.moves }
         ensures rises { Rises seat result }
         ensures rises_other { Rises other result }
@@ -107,6 +107,7 @@ impl<'a> SideTable<'a, Up> {
         ensures step { seat.new.seen ≡ seen_after Floor self.now.system Load i result seat.old.seen }
         ensures entry { slice_index seat.new.seen i ≡ result }
         ensures counts { (seat.new.loads ≡ seat.old.loads + 1) × (seat.new.fetches ≡ seat.old.fetches) × (seat.new.moves ≡ seat.old.moves) }
+        ensures points { (seat.new.looked ≡ seat.old.looked ++ i ∷ []) × (seat.new.renewed ≡ seat.old.renewed) × (seat.new.parts ≡ seat.old.parts) }
         ensures steps { steps.new ≡ steps.old + 1 }
     {
         self.load(seat, i, steps)
@@ -119,13 +120,13 @@ impl<'a> SideTable<'a, Up> {
         requires point { i < length self.now.system }
         ensures own { IsSeatOf self.now seat.new }
         ensures rises { Rises seat.old seat.new }
-        ensures found { slice_index seat.old.seen i ≤ result.old }
+        ensures found { (result.old ≡ seat.new.found) × (slice_index seat.old.seen i ≤ result.old) }
         ensures new { result.new ≡ max result.old (floor_mean self.now.system i seat.old.seen) }
         ensures seen { seat.new.seen ≡ slice_set seat.old.seen i result.new }
         ensures step { (result.new ≡ word_after Floor self.now.system Renew i result.old seat.old.seen) × (seat.new.seen ≡ seen_after Floor self.now.system Renew i result.old seat.old.seen) }
         ensures entry { slice_index seat.new.seen i ≡ result.new }
-        ensures counts { (seat.new.loads ≡ seat.old.loads) × (seat.new.fetches ≡ seat.old.fetches + 1) }
-        ensures raises { seat.new.moves ≡ seat.old.moves + one_if (nat_lt result.old result.new) }
+        ensures counts { (seat.new.loads ≡ seat.old.loads) × (seat.new.fetches ≡ seat.old.fetches + 1) × (seat.new.moves ≡ seat.old.moves + one_if (nat_lt result.old result.new)) }
+        ensures points { (seat.new.looked ≡ seat.old.looked) × (seat.new.renewed ≡ seat.old.renewed ++ i ∷ []) × (seat.new.parts ≡ seat.old.parts) }
         ensures steps { steps.new ≡ steps.old + 1 }
     {
         self.renew(seat, i, steps)
@@ -139,12 +140,12 @@ impl<'a> SideTable<'a, Up> {
         ensures own { IsSeatOf self.now seat.new }
         ensures rises { Rises seat.old seat.new }
         ensures others { (j : ℕ) → j ≢ i → IsNoNeighbour self.now.system i j → slice_index seat.new.seen j ≡ slice_index seat.old.seen j }
-        ensures found { slice_index seat.old.seen i ≤ result.old }
+        ensures found { (result.old ≡ seat.new.found) × (slice_index seat.old.seen i ≤ result.old) }
         ensures new { result.new ≡ max result.old (floor_mean self.now.system i seat.new.seen) }
         ensures entry { slice_index seat.new.seen i ≡ result.new }
         ensures quiet { floor_mean self.now.system i seat.new.seen ≤ slice_index seat.new.seen i }
-        ensures counts { (seat.new.loads ≡ seat.old.loads + length (point_at self.now.system i).near) × (seat.new.fetches ≡ seat.old.fetches + 1) }
-        ensures raises { seat.new.moves ≡ seat.old.moves + one_if (nat_lt result.old result.new) }
+        ensures counts { (seat.new.loads ≡ seat.old.loads + length (point_at self.now.system i).near) × (seat.new.fetches ≡ seat.old.fetches + 1) × (seat.new.moves ≡ seat.old.moves + one_if (nat_lt result.old result.new)) }
+        ensures points { (seat.new.looked ≡ seat.old.looked ++ near_numbers self.now.system i) × (seat.new.renewed ≡ seat.old.renewed ++ i ∷ []) × (seat.new.parts ≡ seat.old.parts) }
         ensures steps { steps.new ≡ steps.old + (length (point_at self.now.system i).near + 1) }
     {
         self.relax_side(seat, i, steps).fetch
@@ -165,6 +166,7 @@ impl<'a> SideTable<'a, Up> {
         requires within { to ≤ length self.now.system }
         ensures own { IsSeatOf self.now seat.new }
         ensures rises { Rises seat.old seat.new }
+        ensures continues { Continues seat.old seat.new }
         ensures quiet { (i : ℕ) → from ≤ i → i < to → floor_mean self.now.system i seat.new.seen ≤ slice_index seat.new.seen i }
         ensures counted { steps.new + (seat.old.loads + seat.old.fetches) ≡ steps.old + (seat.new.loads + seat.new.fetches) }
         ensures cost { (v : List ℕ) → IsLeast self.now.system v → steps.new ≤ steps.old + (rise self.now.start v + 2) * sweep_steps self.now.system from to }
@@ -179,6 +181,7 @@ impl<'a> SideTable<'a, Up> {
         requires { IsSeatOf self.now seat.old }
         ensures own { IsSeatOf self.now seat.new }
         ensures rises { Rises seat.old seat.new }
+        ensures continues { Continues seat.old seat.new }
         ensures least { IsLeast self.now.system seat.new.seen }
         ensures counted { steps.new + (seat.old.loads + seat.old.fetches) ≡ steps.old + (seat.new.loads + seat.new.fetches) }
         ensures cost { (v : List ℕ) → IsLeast self.now.system v → steps.new ≤ steps.old + (rise self.now.start v + 2) * sweep_steps self.now.system 0 (length self.now.system) }

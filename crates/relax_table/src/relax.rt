@@ -5,10 +5,10 @@ ghost use Rattle.relax_system.specs.Sides.{Before, mean_of};
 ghost use Rattle.relax_system.specs.System.{point_at};
 ghost use Rattle.relax_table.specs.Step.{word_after, seen_after};
 ghost use Rattle.relax_table.specs.Step.Kind.{Load, Renew};
-ghost use Rattle.relax_table.specs.Seats.{IsSeatOf, Advances, IsNoNeighbour};
+ghost use Rattle.relax_table.specs.Seats.{IsSeatOf, Advances, IsNoNeighbour, near_numbers};
 ghost use Rattle.relax_table.specs.Ways.{distance, is_past, one_if};
-ghost use Rattle.std.specs.Prelude.{[], false, ◌||◌};
-ghost use Rattle.relax_table.specs.Rule.{Told};
+ghost use Rattle.std.specs.Prelude.{[], ◌∷◌, ◌++◌, false, ◌||◌};
+ghost use Rattle.relax_table.specs.Forms.Rule.{Stepped};
 
 use crate::direction::{Direction, further, mean, passes};
 use crate::rule::{Looks, Renews, View};
@@ -41,6 +41,7 @@ impl<'a, D: Direction> SideTable<'a, D> {
         ensures advances { Advances D.side seat.old seat.new }
         ensures seen { seat.new.seen ≡ seen_after D.side self.now.system Load i result seat.old.seen }
         ensures counts { (seat.new.loads ≡ seat.old.loads + 1) × (seat.new.fetches ≡ seat.old.fetches) × (seat.new.moves ≡ seat.old.moves) }
+        ensures points { (seat.new.looked ≡ seat.old.looked ++ i ∷ []) × (seat.new.renewed ≡ seat.old.renewed) × (seat.new.parts ≡ seat.old.parts) }
         ensures found { Before D.side (slice_index seat.old.seen i) result }
         ensures steps { steps.new ≡ steps.old + 1 }
     {
@@ -64,9 +65,10 @@ impl<'a, D: Direction> SideTable<'a, D> {
         ensures advances { Advances D.side seat.old seat.new }
         ensures word { result.new ≡ word_after D.side self.now.system Renew i result.old seat.old.seen }
         ensures seen { seat.new.seen ≡ slice_set seat.old.seen i result.new }
-        ensures counts { (seat.new.loads ≡ seat.old.loads) × (seat.new.fetches ≡ seat.old.fetches + 1) }
-        ensures moves { seat.new.moves ≡ seat.old.moves + one_if (is_past D.side result.old result.new) }
+        ensures counts { (seat.new.loads ≡ seat.old.loads) × (seat.new.fetches ≡ seat.old.fetches + 1) × (seat.new.moves ≡ seat.old.moves + one_if (is_past D.side result.old result.new)) }
+        ensures points { (seat.new.looked ≡ seat.old.looked) × (seat.new.renewed ≡ seat.old.renewed ++ i ∷ []) × (seat.new.parts ≡ seat.old.parts) }
         ensures found { Before D.side (slice_index seat.old.seen i) result.old }
+        ensures word_found { result.old ≡ seat.new.found }
         ensures quiet { Before D.side (mean_of D.side self.now.system i seat.new.seen) (slice_index seat.new.seen i) }
         ensures steps { steps.new ≡ steps.old + 1 }
     {
@@ -87,6 +89,7 @@ impl<'a, D: Direction> SideTable<'a, D> {
         ensures own { IsSeatOf self.now seat.new }
         ensures advances { Advances D.side seat.old seat.new }
         ensures counts { (seat.new.loads ≡ seat.old.loads + length (point_at self.now.system i).near) × (seat.new.fetches ≡ seat.old.fetches) × (seat.new.moves ≡ seat.old.moves) }
+        ensures points { (seat.new.looked ≡ seat.old.looked ++ near_numbers self.now.system i) × (seat.new.renewed ≡ seat.old.renewed) × (seat.new.parts ≡ seat.old.parts) }
         ensures others { (j : ℕ) → IsNoNeighbour self.now.system i j → slice_index seat.new.seen j ≡ slice_index seat.old.seen j }
         ensures moved { MatchBool result (1 ≤ distance D.side seat.old.seen seat.new.seen) (seat.new.seen ≡ seat.old.seen) }
         ensures steps { steps.new ≡ steps.old + length (point_at self.now.system i).near }
@@ -116,13 +119,12 @@ impl<'a, D: Direction> SideTable<'a, D> {
         ensures advances { Advances D.side seat.old seat.new }
         ensures word { result.fetch.new ≡ word_after D.side self.now.system Renew i result.fetch.old seat.new.seen }
         ensures entry { slice_index seat.new.seen i ≡ result.fetch.new }
-        ensures counts { (seat.new.loads ≡ seat.old.loads + length (point_at self.now.system i).near) × (seat.new.fetches ≡ seat.old.fetches + 1) }
-        ensures moves { seat.new.moves ≡ seat.old.moves + one_if (is_past D.side result.fetch.old result.fetch.new) }
+        ensures counts { (seat.new.loads ≡ seat.old.loads + length (point_at self.now.system i).near) × (seat.new.fetches ≡ seat.old.fetches + 1) × (seat.new.moves ≡ seat.old.moves + one_if (is_past D.side result.fetch.old result.fetch.new)) × (steps.new ≡ steps.old + (length (point_at self.now.system i).near + 1)) }
+        ensures points { (seat.new.looked ≡ seat.old.looked ++ near_numbers self.now.system i) × (seat.new.renewed ≡ seat.old.renewed ++ i ∷ []) × (seat.new.parts ≡ seat.old.parts) }
         ensures others { (j : ℕ) → j ≢ i → IsNoNeighbour self.now.system i j → slice_index seat.new.seen j ≡ slice_index seat.old.seen j }
-        ensures found { Before D.side (slice_index seat.old.seen i) result.fetch.old }
+        ensures found { (result.fetch.old ≡ seat.new.found) × Before D.side (slice_index seat.old.seen i) result.fetch.old }
         ensures quiet { Before D.side (mean_of D.side self.now.system i seat.new.seen) (slice_index seat.new.seen i) }
         ensures moved { MatchBool result.moved (1 ≤ distance D.side seat.old.seen seat.new.seen) (seat.new.seen ≡ seat.old.seen) }
-        ensures steps { steps.new ≡ steps.old + (length (point_at self.now.system i).near + 1) }
     {
         seat.know();
         let looked = self.look_around(seat, i, steps);
@@ -139,7 +141,7 @@ impl<'a, D: Direction> SideTable<'a, D> {
         requires point { i < length self.now.system }
         requires mean { mean ≡ mean_of D.side seat.old.me.0.system i seat.old.me.0.seen }
         ensures own { (seat.new.table_id ≡ self.now.id) × (seat.new.me.1 ≡ []) }
-        ensures told { Told D.side Renew i seat.old.me.0 result seat.new.me.0 }
+        ensures stepped { Stepped D.side Renew i seat.old.me.0 result seat.new.me.0 }
     {
         let _ = &self.system;
         match D::side() {

@@ -1,4 +1,4 @@
-//! The rule of a table, and what each kind of step tells.
+//! The rule of a table, and what each kind of step leaves.
 
 ghost use Rattle.std.specs.Prelude.{◌≡◌};
 
@@ -9,7 +9,7 @@ use std::collections::LinkedList;
 use std::marker::PhantomData;
 use std::snapshot::Snapshot;
 
-/// What a table is told once: its system, and the vector that its words begin with. It has no bytes.
+/// What a table is made with: its system, and the vector that its words begin with. It has no bytes.
 #[derive(Drop)]
 pub struct Origin {
     pub system: Snapshot<System>,
@@ -21,10 +21,18 @@ pub struct View {
     pub system: System,
     pub start: LinkedList<u64>,
     pub seen: LinkedList<u64>,
+    /// The points whose words it loaded, one after another.
+    pub looked: LinkedList<u64>,
+    /// The points whose words it fetched, one after another.
+    pub renewed: LinkedList<u64>,
     pub loads: u64,
     pub fetches: u64,
     /// The fetches that changed a word.
     pub moves: u64,
+    /// How many seats it is made of.
+    pub parts: u64,
+    /// The word that its last step found.
+    pub found: u64,
     /// Whether the seat was joined to another.
     pub spent: bool,
 }
@@ -35,7 +43,7 @@ pub struct SideRule<D> {
 }
 
 impl<S, D: Direction> TableRule<S, View, Origin> for SideRule<D> {
-    ghost use Rattle.relax_table.specs.Rule.{Keeps, opened};
+    ghost use Rattle.relax_table.specs.Forms.Rule.{Keeps, opened};
 
     ghost holds = { λ k s. Keeps D.side k.system.value k.start.value.items s.words s.views };
 
@@ -50,9 +58,9 @@ pub(crate) struct Looks<D> {
 impl<S, D: Direction> Play<S, View> for Looks<D> {
     ghost use Rattle.std.specs.Prelude.{◌≡◌};
     ghost use Rattle.relax_table.specs.Step.Kind.{Load};
-    ghost use Rattle.relax_table.specs.Rule.{Told};
+    ghost use Rattle.relax_table.specs.Forms.Rule.{Stepped};
 
-    ghost then = { λ s v x w. (w.1 ≡ v.1) × Told D.side Load s.word v.0 x w.0 };
+    ghost then = { λ s v x w. (w.1 ≡ v.1) × Stepped D.side Load s.word v.0 x w.0 };
 }
 
 /// A fetch of the mean of what the seat has seen.
@@ -63,19 +71,19 @@ pub(crate) struct Renews<D> {
 impl<S, D: Direction> Play<S, View> for Renews<D> {
     ghost use Rattle.std.specs.Prelude.{◌≡◌};
     ghost use Rattle.relax_table.specs.Step.Kind.{Renew};
-    ghost use Rattle.relax_table.specs.Rule.{Told};
+    ghost use Rattle.relax_table.specs.Forms.Rule.{Stepped};
 
-    ghost then = { λ s v x w. (w.1 ≡ v.1) × Told D.side Renew s.word v.0 x w.0 };
+    ghost then = { λ s v x w. (w.1 ≡ v.1) × Stepped D.side Renew s.word v.0 x w.0 };
 }
 
-/// A load that leaves the view as it is. It tells a joined seat the bound on its moves.
+/// A load that leaves the view as it is. By it a joined seat knows the bound on its moves.
 pub(crate) struct Learns<D> {
     direction: PhantomData<D>,
 }
 
 impl<S, D: Direction> Play<S, View> for Learns<D> {
     ghost use Rattle.std.specs.Prelude.{◌≡◌};
-    ghost use Rattle.relax_table.specs.Rule.{Learned};
+    ghost use Rattle.relax_table.specs.Forms.Rule.{Learned};
 
     ghost then = { λ s v x w. (w.1 ≡ v.1) × Learned D.side v.0 w.0 };
 }
@@ -86,7 +94,7 @@ pub(crate) struct Halves<D> {
 }
 
 impl<D: Direction> Split<View> for Halves<D> {
-    ghost use Rattle.relax_table.specs.Rule.{sprout};
+    ghost use Rattle.relax_table.specs.Forms.Rule.{sprout};
 
     ghost left = { λ v. v };
 
@@ -94,7 +102,7 @@ impl<D: Direction> Split<View> for Halves<D> {
 }
 
 impl<D: Direction> Join<View> for Halves<D> {
-    ghost use Rattle.relax_table.specs.Rule.{joined, gone};
+    ghost use Rattle.relax_table.specs.Forms.Rule.{joined, gone};
 
     ghost both = { joined D.side };
 

@@ -26,7 +26,7 @@ pub struct SideSeat<D: Direction> {
 impl<D: Direction> Model for SideSeat<D> {
     ghost use Rattle.std.specs.Prelude.{◌≡◌, []};
     ghost use Rattle.relax_table.specs.Seats.{SeatState};
-    ghost use Rattle.relax_table.specs.Rule.{state_of, IsHeld};
+    ghost use Rattle.relax_table.specs.Forms.Rule.{state_of, IsHeld};
 
     ghost Value = { SeatState };
 
@@ -36,7 +36,7 @@ impl<D: Direction> Model for SideSeat<D> {
 }
 
 impl<D: Direction> SideSeat<D> {
-    /// Does nothing, and tells what holds of a seat at every moment.
+    /// Does nothing; its clause is what holds of a seat at every moment.
     #[inline(always)]
     pub(crate) fn know(&self)
         ensures { IsSound D.side self.now }

@@ -2,8 +2,8 @@
 
 ghost use Rattle.std.specs.Prelude.{◌≡◌, ℕ, ◌+◌, ◌*◌, ◌<◌, ◌≤◌, List, length, MatchBool};
 ghost use Rattle.relax_system.specs.Sides.{IsExtremal};
-ghost use Rattle.relax_table.specs.Seats.{IsSeatOf, Advances, sweep_steps};
-ghost use Rattle.relax_table.specs.Ways.{distance, IsBound, IsQuietIn};
+ghost use Rattle.relax_table.specs.Seats.{IsSeatOf, Advances, Continues, sweep_steps};
+ghost use Rattle.relax_table.specs.Ways.{distance, IsQuietVector, IsQuietIn};
 
 use crate::direction::Direction;
 use crate::relax::either;
@@ -26,9 +26,10 @@ impl<'a, D: Direction> SideTable<'a, D> {
         requires within { to ≤ length self.now.system }
         ensures own { IsSeatOf self.now seat.new }
         ensures advances { Advances D.side seat.old seat.new }
+        ensures continues { Continues seat.old seat.new }
         ensures quiet { IsQuietIn D.side self.now.system from to seat.new.seen }
         ensures counted { steps.new + (seat.old.loads + seat.old.fetches) ≡ steps.old + (seat.new.loads + seat.new.fetches) }
-        ensures cost { (u : List ℕ) → IsBound D.side self.now.system u → steps.new ≤ steps.old + (distance D.side self.now.start u + 2) * sweep_steps self.now.system from to }
+        ensures cost { (u : List ℕ) → IsQuietVector D.side self.now.system u → steps.new ≤ steps.old + (distance D.side self.now.start u + 2) * sweep_steps self.now.system from to }
     {
         seat.know();
         'sweeps: while self.sweep(seat, from, to, steps) {}
@@ -40,6 +41,7 @@ impl<'a, D: Direction> SideTable<'a, D> {
         requires { IsSeatOf self.now seat.old }
         ensures own { IsSeatOf self.now seat.new }
         ensures advances { Advances D.side seat.old seat.new }
+        ensures continues { Continues seat.old seat.new }
         ensures extremal { IsExtremal D.side self.now.system seat.new.seen }
     {
         self.settle_side(seat, 0, self.system.points(), steps);
@@ -59,6 +61,7 @@ impl<'a, D: Direction> SideTable<'a, D> {
         requires within { to ≤ length self.now.system }
         ensures own { IsSeatOf self.now seat.new }
         ensures advances { Advances D.side seat.old seat.new }
+        ensures continues { Continues seat.old seat.new }
         ensures moved { MatchBool result (1 ≤ distance D.side seat.old.seen seat.new.seen) (IsQuietIn D.side self.now.system from to seat.new.seen) }
         ensures counted { steps.new + (seat.old.loads + seat.old.fetches) ≡ steps.old + (seat.new.loads + seat.new.fetches) }
         ensures steps { steps.new ≡ steps.old + sweep_steps self.now.system from to }

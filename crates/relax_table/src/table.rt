@@ -4,9 +4,9 @@ ghost use Rattle.std.specs.Prelude.{◌≡◌, ◌+◌, ◌<◌, ◌≤◌, leng
 ghost use Rattle.relax_system.specs.Sides.{AllBefore};
 ghost use Rattle.relax_system.specs.Means.{InBoxes};
 ghost use Rattle.relax_system.specs.System.{IsValid};
-ghost use Rattle.relax_table.specs.Ways.{further_of, IsBound};
+ghost use Rattle.relax_table.specs.Ways.{further_of, IsQuietVector};
 ghost use Rattle.relax_table.specs.Seats.{SeatState, IsSeatOf, IsSound, Advances};
-ghost use Rattle.relax_table.specs.Rule.{furthest};
+ghost use Rattle.relax_table.specs.Forms.Rule.{furthest};
 ghost use Rattle.std.specs.Prelude.{ℕ, List};
 
 use crate::direction::{Direction, further};
@@ -47,10 +47,10 @@ impl<'a, D: Direction> SideTable<'a, D> {
     ) -> Result<(SideTable<'a, D>, SideSeat<D>), Memory>
         requires some { 0 < length system.now }
         requires boxes { InBoxes system.now start.now }
-        requires first { (u : List ℕ) → IsBound D.side system.now u → AllBefore D.side start.now u }
+        requires first { (u : List ℕ) → IsQuietVector D.side system.now u → AllBefore D.side start.now u }
         ensures table { IfOk result (λ t. (t.0.system ≡ system.now) × (t.0.start ≡ start.now)) }
         ensures own { IfOk result (λ t. IsSeatOf t.0 t.1) }
-        ensures seat { IfOk result (λ t. (t.1.seen ≡ start.now) × (t.1.loads ≡ 0) × (t.1.fetches ≡ 0) × (t.1.moves ≡ 0)) }
+        ensures seat { IfOk result (λ t. (t.1.seen ≡ start.now) × (t.1.loads ≡ 0) × (t.1.fetches ≡ 0) × (t.1.moves ≡ 0) × (t.1.parts ≡ 1)) }
         ensures sound { IfOk result (λ t. IsSound D.side t.1) }
     {
         let _ = system.points();
@@ -75,7 +75,7 @@ impl<'a, D: Direction> SideTable<'a, D> {
         requires { IsSeatOf self.now seat.old }
         ensures same { seat.new ≡ seat.old }
         ensures own { IfOk result (IsSeatOf self.now) }
-        ensures seat { IfOk result (λ s. (s.seen ≡ seat.old.seen) × (s.loads ≡ 0) × (s.fetches ≡ 0) × (s.moves ≡ 0)) }
+        ensures seat { IfOk result (λ s. (s.seen ≡ seat.old.seen) × (s.loads ≡ 0) × (s.fetches ≡ 0) × (s.moves ≡ 0) × (s.parts ≡ 1)) }
         ensures sound { IfOk result (IsSound D.side) }
     {
         let seen = seat.seen.clone()?;
@@ -94,7 +94,7 @@ impl<'a, D: Direction> SideTable<'a, D> {
         requires other { IsSeatOf self.now other }
         ensures own { IsSeatOf self.now result }
         ensures seen { (i : ℕ) → slice_index result.seen i ≡ further_of D.side (slice_index seat.seen i) (slice_index other.seen i) }
-        ensures counts { (result.loads ≡ seat.loads + other.loads) × (result.fetches ≡ seat.fetches + other.fetches) × (result.moves ≡ seat.moves + other.moves) }
+        ensures counts { (result.loads ≡ seat.loads + other.loads) × (result.fetches ≡ seat.fetches + other.fetches) × (result.moves ≡ seat.moves + other.moves) × (result.parts ≡ seat.parts + other.parts) }
         ensures advances { Advances D.side seat result }
         ensures advances_other { Advances D.side other result }
     {

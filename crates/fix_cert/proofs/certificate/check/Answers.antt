@@ -2,7 +2,7 @@ use Rattle.std.proofs.Common.{◌≡◌, ap, subst, length, arith}
 use Rattle.std.specs.Prelude.{Result, Ok}
 use Rattle.fix_cert.specs.declared.reading.Reading.{Reading}
 use Rattle.fix_cert.specs.declared.verdict.Side2.{Side2}
-use Rattle.fix_cert.specs.Reading.{IsFinding}
+use Rattle.fix_cert.specs.Forms.Reading.{IsFinding}
 use Rattle.fix_cert.proofs.Verdicts.{one_passed, enclosing}
 use Rattle.fix_cert.proofs.certificate.check.Goals as goal
 

@@ -7,17 +7,17 @@ use Rattle.relax_crew.proofs.crew.joined.Goals as goal
 
 pub more-init : goal.more-init
 more-init g c =
-    let own = All-pop (λ b. IsSeatOf c.args.table.now b.seat) c.args.benches.items c.pop.new.self.items c.pop.result c.pop.ensures.items c.requires.seated in
-    let extremal = All-pop (λ b. IsExtremal g.D.Direction.side c.args.table.now.system b.seat.seen) c.args.benches.items c.pop.new.self.items c.pop.result c.pop.ensures.items c.requires.extremal in
+    let own = All-pop (λ b. IsSeatOf c.args.table.now b.seat) c.args.spaced.items c.pop.new.self.items c.pop.result c.pop.ensures.items c.requires.seated in
+    let extremal = All-pop (λ b. IsExtremal g.D.Direction.side c.args.table.now.system b.seat.seen) c.args.spaced.items c.pop.new.self.items c.pop.result c.pop.ensures.items c.requires.extremal in
     search rules
 
 pub join_sides-seat-requires-clause-other : goal.join_sides-seat-requires-clause-other
 join_sides-seat-requires-clause-other g c =
-    let own = All-pop (λ b. IsSeatOf c.args.table.now b.seat) c.more.benches.items c.pop-in-more.new.self.items c.pop-in-more.result c.pop-in-more.ensures.items c.more.invariant.2 in
+    let own = All-pop (λ b. IsSeatOf c.args.table.now b.seat) c.more.spaced.items c.pop-in-more.new.self.items c.pop-in-more.result c.pop-in-more.ensures.items c.more.invariant.2 in
     search rules
 
 pub more-preserved : goal.more-preserved
 more-preserved g c =
-    let own = All-pop (λ b. IsSeatOf c.args.table.now b.seat) c.more.benches.items c.pop-in-more.new.self.items c.pop-in-more.result c.pop-in-more.ensures.items c.more.invariant.2 in
+    let own = All-pop (λ b. IsSeatOf c.args.table.now b.seat) c.more.spaced.items c.pop-in-more.new.self.items c.pop-in-more.result c.pop-in-more.ensures.items c.more.invariant.2 in
     let extremal = still_extremal g.D.Direction.side _ c.more.seat c.join_sides-seat.result c.join_sides-seat.ensures.own.same_system c.join_sides-seat.ensures.advances c.more.invariant.1 in
     (c.join_sides-seat.ensures.own, extremal, own.0)

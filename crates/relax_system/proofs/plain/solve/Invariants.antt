@@ -1,4 +1,4 @@
-use Rattle.relax_system.specs.Way.{IsOnWay, room}
+use Rattle.relax_system.specs.Forms.Way.{IsOnWay, room}
 use Rattle.relax_system.proofs.plain.solve.Given as goal
 
 abbrev pub invariant-sweeps : goal.invariant-sweeps

@@ -1,7 +1,7 @@
 use Rattle.std.proofs.Common.{◌≡◌, ℕ, ◌<◌, List, length, ◌∙◌}
 use Rattle.relax_system.specs.declared.points.Point.{Point}
 use Rattle.relax_system.specs.System.{point_at, no_point, total_weight}
-use Rattle.relax_system.specs.Flat.{IsFlat}
+use Rattle.relax_system.specs.Forms.Flat.{IsFlat}
 use Rattle.relax_system.proofs.Rows.{IsRow, IsFlat-row, IsRowOf, IsSoundRow-of, rounded-row, read_mapped}
 use Rattle.relax_system.proofs.flat.Flat.mean.Goals as goal
 

@@ -1,5 +1,5 @@
 use Rattle.std.proofs.Common.{take}
-use Rattle.relax_system.specs.Flat.{IsFlat}
+use Rattle.relax_system.specs.Forms.Flat.{IsFlat}
 use Rattle.relax_system.proofs.flat.Flat.new.Given as goal
 
 abbrev pub invariant-loop-i : goal.invariant-loop-i

@@ -5,7 +5,7 @@ use Rattle.relax_table.specs.Ways.{further_of}
 use Rattle.relax_table.proofs.Vectors.{at_furthest}
 use Rattle.relax_table.specs.Seats.{SeatState, Advances}
 use Rattle.relax_table.specs.declared.rule.View.{View}
-use Rattle.relax_table.specs.Rule.{state_of, joined, furthest}
+use Rattle.relax_table.specs.Forms.Rule.{state_of, joined, furthest}
 use Rattle.relax_table.proofs.Moves.{joins_allowed, learns_allowed}
 use Rattle.relax_table.proofs.Seated.{held_joined, advances_joined, moves-few}
 use Rattle.relax_table.proofs.table.SideTable.join_sides.Goals as goal

@@ -1,7 +1,7 @@
 use Rattle.std.proofs.Common.{rules, ◌≡◌, ◌<◌, List, length, arith, ap, ◌∙◌, subst}
 use Rattle.relax_system.specs.declared.points.Point.{Point}
 use Rattle.relax_table.specs.Seats.{SeatState, Advances}
-use Rattle.relax_table.specs.Rule.{state_of}
+use Rattle.relax_table.specs.Forms.Rule.{state_of}
 use Rattle.relax_table.proofs.Moves.{loads_allowed}
 use Rattle.relax_table.proofs.Seated.{held_loaded, advances_loaded}
 use Rattle.relax_table.proofs.table.SideTable.load.Goals as goal

@@ -5,9 +5,9 @@ use Rattle.relax_table.specs.Ways.{is_past, one_if}
 use Rattle.relax_table.specs.Step.{word_after}
 use Rattle.relax_table.specs.Step.Kind.{Renew}
 use Rattle.relax_table.specs.Seats.{TableState, SeatState, Advances}
-use Rattle.relax_table.specs.Rule.{state_of}
+use Rattle.relax_table.specs.Forms.Rule.{state_of}
 use Rattle.relax_table.proofs.Numbers.{one_if-le}
-use Rattle.relax_table.proofs.Seated.{held_renewed, advances_renewed, told_quiet, moves-few}
+use Rattle.relax_table.proofs.Seated.{held_renewed, advances_renewed, stepped_quiet, moves-few}
 use Rattle.relax_table.proofs.table.SideTable.renew.Goals as goal
 
 pub overflow_add-seat : goal.overflow_add-seat
@@ -22,7 +22,7 @@ invariant_of-seat g c =
     cc (c.further-new.ensures, c.side-2.ensures, c.mean-mean.ensures, c.side.ensures, system, seen) in
     let count : c.passes.result ≡ one_if (is_past g.D.Direction.side c.fetch-old.result c.further-new.result) = c.passes.ensures ∙ ap (λ (z : Side). one_if (is_past z c.fetch-old.result c.further-new.result)) c.side-3.ensures in (
       search rules,
-      held_renewed g.D.Direction.side _ _ _ _ _ _ _ _ _ _ c.seat.invariant.1 c.fetch-old.ensures.told word (ap (λ (k : ℕ). c.seat.inside.moves + k) count),
+      held_renewed g.D.Direction.side _ _ _ _ _ _ _ _ _ _ c.seat.invariant.1 c.fetch-old.ensures.stepped word (ap (λ (k : ℕ). c.seat.inside.moves + k) count),
     )
 
 pub returns-clause-advances : goal.returns-clause-advances
@@ -32,7 +32,7 @@ returns-clause-advances g c =
     let count : length v.system ≡ length c.args.self.now.system = ap (λ (p : List Point). length p) system in
     let there : c.args.i < length v.seen = omega (arith, c.seat.invariant.1.sound.in_boxes.all, c.requires.point, count) in
     subst (λ (s : SeatState). Advances g.D.Direction.side s (state_of c.fetch-old.new.seat.table_id c.fetch-old.new.seat.me.0)) c.seat.view_is
-    (advances_renewed g.D.Direction.side c.seat.inside.seat.table_id c.fetch-old.new.seat.table_id v c.fetch-old.new.seat.me.0 c.args.i c.fetch-old.result (c.fetch-old.ensures.own.0 ∙ (sym c.requires.own.same_table ∙ sym (ap (λ (s : SeatState). s.table) c.seat.view_is))) there c.fetch-old.ensures.told)
+    (advances_renewed g.D.Direction.side c.seat.inside.seat.table_id c.fetch-old.new.seat.table_id v c.fetch-old.new.seat.me.0 c.args.i c.fetch-old.result (c.fetch-old.ensures.own.0 ∙ (sym c.requires.own.same_table ∙ sym (ap (λ (s : SeatState). s.table) c.seat.view_is))) there c.fetch-old.ensures.stepped)
 
 pub returns-clause-quiet : goal.returns-clause-quiet
 returns-clause-quiet g c =
@@ -40,4 +40,4 @@ returns-clause-quiet g c =
     let system : v.system ≡ c.args.self.now.system = ap (λ (s : SeatState). s.system) c.seat.view_is ∙ c.requires.own.same_system in
     let count : length v.system ≡ length c.args.self.now.system = ap (λ (p : List Point). length p) system in
     let there : c.args.i < length v.seen = omega (arith, c.seat.invariant.1.sound.in_boxes.all, c.requires.point, count) in
-    told_quiet g.D.Direction.side c.args.self.now.system c.seat.inside.seat.table_id v c.fetch-old.new.seat.me.0 c.args.i c.fetch-old.result c.seat.invariant.1.sound system c.requires.point there c.fetch-old.ensures.told
+    stepped_quiet g.D.Direction.side c.args.self.now.system c.seat.inside.seat.table_id v c.fetch-old.new.seat.me.0 c.args.i c.fetch-old.result c.seat.invariant.1.sound system c.requires.point there c.fetch-old.ensures.stepped

@@ -1,6 +1,6 @@
-use Rattle.relax_table.specs.Ways.{distance, ends_of}
+use Rattle.relax_table.specs.Ways.{distance}
 use Rattle.relax_table.specs.Seats.{sweep_steps}
-use Rattle.relax_table.proofs.Sweeps.{IsSettling}
+use Rattle.relax_table.proofs.Sweeps.{IsSettling, ends_of}
 use Rattle.relax_table.proofs.table.SideTable.settle_side.Given as goal
 
 abbrev pub invariant-sweeps : goal.invariant-sweeps

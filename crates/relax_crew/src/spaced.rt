@@ -6,16 +6,16 @@ use relax_table::{Direction, SideSeat};
 
 /// A seat, a cache line apart from the next one: its counts are written at each step.
 #[derive(Drop)]
-pub(crate) struct Bench<D: Direction> {
+pub(crate) struct Spaced<D: Direction> {
     pub(crate) seat: SideSeat<D>,
     apart: [u64; 16],
 }
 
-impl<D: Direction> Bench<D> {
-    pub(crate) fn new(seat: SideSeat<D>) -> Bench<D>
+impl<D: Direction> Spaced<D> {
+    pub(crate) fn new(seat: SideSeat<D>) -> Spaced<D>
         ensures { result.seat ≡ seat }
     {
-        Bench {
+        Spaced {
             seat,
             apart: [0; 16],
         }

@@ -1,5 +1,5 @@
--- The rule of a table over its words, its start and the views of all seats, and what each step tells.
-use Rattle.std.specs.Prelude.{◌≡◌, ℕ, ◌+◌, ◌≤◌, List, [], map, sum_by, true, false}
+-- The rule of a table over its words, its start and the views of all seats, and what each step leaves.
+use Rattle.std.specs.Prelude.{◌≡◌, ℕ, ◌+◌, ◌≤◌, List, [], ◌∷◌, ◌++◌, map, sum_by, true, false}
 use Rattle.std.specs.List.{slice_index, zip}
 use mathlib.Core.Option.{some}
 use lib.ListN.{get_elem?}
@@ -10,14 +10,14 @@ use Rattle.relax_system.specs.System.{IsValid}
 use Rattle.relax_system.specs.Means.{InBoxes}
 use Rattle.relax_system.specs.Sides.{Before, AllBefore}
 use Rattle.relax_table.specs.declared.rule.View.{View}
-use Rattle.relax_table.specs.Ways.{further_of, is_past, one_if, distance, IsBound}
+use Rattle.relax_table.specs.Ways.{further_of, is_past, one_if, distance, IsQuietVector}
 use Rattle.relax_table.specs.Step.{Kind, word_after, seen_after}
 use Rattle.relax_table.specs.Step.Kind.{Load, Renew}
 use Rattle.relax_table.specs.Seats.{SeatState, IsSound}
 
 -- a seat as clauses see it
 abbrev pub state_of : TableId → View → SeatState
-state_of id v = record { table = id; system = v.system; start = v.start; seen = v.seen; loads = v.loads; fetches = v.fetches; moves = v.moves }
+state_of id v = record { table = id; system = v.system; start = v.start; seen = v.seen; looked = v.looked; renewed = v.renewed; loads = v.loads; fetches = v.fetches; moves = v.moves; parts = v.parts; found = v.found }
 
 -- the moves of all seats together
 abbrev pub all_moves : List View → ℕ
@@ -37,17 +37,17 @@ pub record Keeps (side : Side) (points : List Point) (start words : List ℕ) (v
   pub start_boxes : InBoxes points start
   pub in_boxes : InBoxes points words
   pub started : AllBefore side start words
-  pub first : (u : List ℕ) → IsBound side points u → AllBefore side words u
+  pub first : (u : List ℕ) → IsQuietVector side points u → AllBefore side words u
   pub each : (k : ℕ) (v : View) → get_elem? views k ≡ some v → v.spent ≡ false → IsInStep side points start words v
   pub paid : all_moves views ≤ distance side start words
 
 -- the first view
 abbrev pub opened : List Point → List ℕ → View
-opened points start = record { system = points; start = start; seen = start; loads = 0; fetches = 0; moves = 0; spent = false }
+opened points start = record { system = points; start = start; seen = start; looked = []; renewed = []; loads = 0; fetches = 0; moves = 0; parts = 1; found = 0; spent = false }
 
--- a seat that is split off has seen the same, and has counts of 0
+-- a seat that is split off has seen the same, has made no step, and is one seat
 abbrev pub sprout : View → View
-sprout v = record { system = v.system; start = v.start; seen = v.seen; loads = 0; fetches = 0; moves = 0; spent = v.spent }
+sprout v = record { system = v.system; start = v.start; seen = v.seen; looked = []; renewed = []; loads = 0; fetches = 0; moves = 0; parts = 1; found = 0; spent = v.spent }
 
 -- of two vectors the entries that stand further on the way
 abbrev pub furthest : Side → List ℕ → List ℕ → List ℕ
@@ -55,32 +55,60 @@ furthest side u v = map (λ e. further_of side e.0 e.1) (zip u v)
 
 -- two seats made one
 abbrev pub joined : Side → View → View → View
-joined side v w = record { system = v.system; start = v.start; seen = furthest side v.seen w.seen; loads = v.loads + w.loads; fetches = v.fetches + w.fetches; moves = v.moves + w.moves; spent = v.spent }
+joined side v w = record {
+  system = v.system;
+  start = v.start;
+  seen = furthest side v.seen w.seen;
+  looked = v.looked ++ w.looked;
+  renewed = v.renewed ++ w.renewed;
+  loads = v.loads + w.loads;
+  fetches = v.fetches + w.fetches;
+  moves = v.moves + w.moves;
+  parts = v.parts + w.parts;
+  found = v.found;
+  spent = v.spent;
+}
 
 -- what a join leaves behind
 abbrev pub gone : View
-gone = record { system = []; start = []; seen = []; loads = 0; fetches = 0; moves = 0; spent = true }
+gone = record { system = []; start = []; seen = []; looked = []; renewed = []; loads = 0; fetches = 0; moves = 0; parts = 0; found = 0; spent = true }
 
 -- the view after a step on the word of the point i that found x
 abbrev pub stepped_view : Side → Kind → ℕ → View → ℕ → View
-stepped_view side Load i v x = record { system = v.system; start = v.start; seen = seen_after side v.system Load i x v.seen; loads = v.loads + 1; fetches = v.fetches; moves = v.moves; spent = v.spent }
+stepped_view side Load i v x = record {
+  system = v.system;
+  start = v.start;
+  seen = seen_after side v.system Load i x v.seen;
+  looked = v.looked ++ i ∷ [];
+  renewed = v.renewed;
+  loads = v.loads + 1;
+  fetches = v.fetches;
+  moves = v.moves;
+  parts = v.parts;
+  found = x;
+  spent = v.spent;
+}
 stepped_view side Renew i v x = record {
   system = v.system;
   start = v.start;
   seen = seen_after side v.system Renew i x v.seen;
+  looked = v.looked;
+  renewed = v.renewed ++ i ∷ [];
   loads = v.loads;
   fetches = v.fetches + 1;
   moves = v.moves + one_if (is_past side x (word_after side v.system Renew i x v.seen));
+  parts = v.parts;
+  found = x;
   spent = v.spent;
 }
 
--- What a step tells: the word found isn't back from what the seat had seen, and the seat is sound after it.
-pub record Told (side : Side) (kind : Kind) (i : ℕ) (v : View) (x : ℕ) (w : View) : Type 0 where
+-- After a step: the word found isn't back from what the seat had seen, and the seat is sound after it.
+pub record Stepped (side : Side) (kind : Kind) (i : ℕ) (v : View) (x : ℕ) (w : View) : Type 0 where
   pub view : w ≡ stepped_view side kind i v x
   pub found : Before side (slice_index v.seen i) x
   pub sound : (id : TableId) → IsSound side (state_of id w)
 
--- what a load that changes no view tells
+-- after a load that changes no view
 pub record Learned (side : Side) (v w : View) : Type 0 where
   pub view : w ≡ v
   pub sound : (id : TableId) → IsSound side (state_of id w)

@@ -2,6 +2,7 @@
 use Rattle.std.specs.Prelude.{◌≡◌, ℕ, ◌+◌, ◌*◌, ◌^◌, ◌<◌, ◌≤◌, List, length, map, take, slice_index, sum_by, All, Bool, IsTrue}
 use Rattle.std.specs.List.{flat_map, zip}
 use Rattle.relax_system.specs.declared.points.Point.{Point}
+use Rattle.relax_system.specs.declared.valid.TheConstants.{MOST_COORDINATE, MOST_WEIGHT}
 use Rattle.relax_system.specs.System.{total_weight}
 
 -- the neighbours' numbers of a point, and their weights
@@ -36,6 +37,6 @@ pub record IsSoundRow (narrow : Bool) (numbers weights : List ℕ) (anchored tot
   pub same : length numbers ≡ length weights
   pub there : All (λ n. n < length v) numbers
   pub fits : IsTrue narrow → dot numbers weights v + anchored < 2 ^ 64
-  pub high : dot numbers weights v + anchored ≤ total * 2000000000000
+  pub high : dot numbers weights v + anchored ≤ total * MOST_COORDINATE
   pub positive : 1 ≤ total
-  pub light : total ≤ 2 ^ 40
+  pub light : total ≤ MOST_WEIGHT

@@ -1,0 +1,4 @@
+pub mod Narrow
+pub mod Flat
+pub mod Way
+pub mod Rounding
