@@ -1,4 +1,4 @@
--- Lists of files, by names and places.
+-- Lists of files, by names and numbers.
 use Rattle.std.proofs.Common.{arith, subst, add-zero, ◌≡◌, ℕ, ◌+◌, ◌<◌, Bool, true, not, cond, List, [], ◌∷◌, ◌++◌, length, map, set, get_or, Option, Some, None, MatchOption, option_map, slice_get, nat_lt, refl, ap, ◌∙◌, sym, inl, inr, position, bytes_eq, Vec}
 use Rattle.std.specs.List.{position_or_len, prefix_len}
 use Rattle.std.specs.declared.alloc.Global.{Global}
@@ -9,8 +9,8 @@ use Rattle.std.proofs.lemmas.Option.{cond_some, none-some, slice_get-get_or, sli
 use Rattle.std.proofs.lemmas.Bool.{cases_lt, cases_eq, cond-true, cond-false, lt-ltb, le-ltb, eq-eqb, ne_eqb}
 use Rattle.std.proofs.lemmas.Slice.Eq.{bytes_eq-Decides}
 use Rattle.book_outer.specs.declared.lists.File.{File}
-use Rattle.book_outer.specs.Files.{FileEntry, place_of, content, with_content}
-use Rattle.book_outer.specs.Store.{entry_of, entries, entry_at, with_bytes, IsFound, IsNamed}
+use Rattle.book_outer.specs.Files.{FileEntry, nth_of, content, with_content}
+use Rattle.book_outer.specs.Forms.Store.{entry_of, entries, entry_at, with_bytes, IsFound, IsNamed}
 
 pub prefix_len-map : {X Y : Type 0} (p : Y → Bool) (f : X → Y) (xs : List X) → prefix_len p (map f xs) ≡ prefix_len (λ x. p (f x)) xs
 prefix_len-map p f [] = refl
@@ -40,20 +40,20 @@ named : (files : List FileEntry) (name : List ℕ) (at : ℕ) → position (λ f
 named files name at found =
     let nothing : FileEntry = record { name = []; bytes = [] } in
     let stands = position-Some (λ file. bytes_eq file.name name) files at nothing found in
-    let place : place_of files name ≡ at = (cond_some (nat_lt (place_of files name) (length files)) (place_of files name) at found).1 in
+    let nth : nth_of files name ≡ at = (cond_some (nat_lt (nth_of files name) (length files)) (nth_of files name) at found).1 in
     let is : (entry_at files at).name ≡ name = (bytes_eq-Decides (entry_at files at).name name).0 stands.1 in
     record {
-      found = record { inside = stands.0; first = ap (place_of files) is ∙ place };
+      found = record { inside = stands.0; first = ap (nth_of files) is ∙ nth };
       named = is;
-      place = place;
-      holds = ap (λ n. option_map (λ file. file.bytes) (slice_get files n)) place ∙ ap (option_map (λ file. file.bytes)) (slice_get-get_or files at nothing stands.0);
+      nth = nth;
+      holds = ap (λ n. option_map (λ file. file.bytes) (slice_get files n)) nth ∙ ap (option_map (λ file. file.bytes)) (slice_get-get_or files at nothing stands.0);
     }
 
 -- No file of that name stands there.
 absent : (files : List FileEntry) (name : List ℕ) → position (λ file. bytes_eq file.name name) files ≡ None → content files name ≡ None
-absent files name nowhere = elim (cases_lt (place_of files name) (length files)) [
+absent files name nowhere = elim (cases_lt (nth_of files name) (length files)) [
   | inl inside ↦ absurd (none-some _ (sym nowhere ∙ cond-true _ _ _ (lt-ltb _ _ inside)))
-  | inr past ↦ ap (option_map (λ file. file.bytes)) (slice_get_past files (place_of files name) past)
+  | inr past ↦ ap (option_map (λ file. file.bytes)) (slice_get_past files (nth_of files name) past)
 ]
 
 -- what a search by name found
@@ -66,7 +66,7 @@ pub named-found : (files : List FileEntry) (at : ℕ) → IsFound files at → I
 named-found files at found = record {
   found = found;
   named = refl;
-  place = found.first;
+  nth = found.first;
   holds = ap (λ n. option_map (λ (file : FileEntry). file.bytes) (slice_get files n)) found.first
       ∙ ap (option_map (λ (file : FileEntry). file.bytes)) (slice_get-get_or files at (record { name = []; bytes = [] }) found.inside);
 }
@@ -82,21 +82,21 @@ name-with_bytes files at k bytes = elim (cases_eq k at) [
   | inr other ↦ rw (get_or-set_other)
 ]
 
-pub place-with_bytes : (files : List FileEntry) (at : ℕ) (bytes name : List ℕ) → place_of (with_bytes files at bytes) name ≡ place_of files name
-place-with_bytes files at bytes name =
+pub nth-with_bytes : (files : List FileEntry) (at : ℕ) (bytes name : List ℕ) → nth_of (with_bytes files at bytes) name ≡ nth_of files name
+nth-with_bytes files at bytes name =
     position_or_len-set (λ (file : FileEntry). bytes_eq file.name name) files at (record { name = (entry_at files at).name; bytes = bytes }) (record { name = []; bytes = [] }) refl
 
 pub found-with_bytes : (files : List FileEntry) (at k : ℕ) (bytes : List ℕ) → IsFound files k → IsFound (with_bytes files at bytes) k
 found-with_bytes files at k bytes found = record {
   inside = omega (arith, length-set files at (record { name = (entry_at files at).name; bytes = bytes }), found.inside);
-  first = ap (place_of (with_bytes files at bytes)) (name-with_bytes files at k bytes) ∙ place-with_bytes files at bytes (entry_at files k).name ∙ found.first;
+  first = ap (nth_of (with_bytes files at bytes)) (name-with_bytes files at k bytes) ∙ nth-with_bytes files at bytes (entry_at files k).name ∙ found.first;
 }
 
--- the file of a name, by its place
+-- the file of a name, by its number
 pub with_content-named : (files : List FileEntry) (name : List ℕ) (at : ℕ) (bytes : List ℕ) → IsNamed files name at → with_content files name bytes ≡ with_bytes files at bytes
 with_content-named files name at bytes is =
     let inside : nat_lt at (length files) ≡ true = lt-ltb at (length files) is.found.inside in
-    rw (is.place, inside, is.named)
+    rw (is.nth, inside, is.named)
 
 pub named-with_bytes : (files : List FileEntry) (name : List ℕ) (at : ℕ) (bytes : List ℕ) → IsNamed files name at → IsNamed (with_bytes files at bytes) name at
 named-with_bytes files name at bytes is =
@@ -116,28 +116,28 @@ found-push files file k found =
     let inside : k < length files = found.inside in
     let name = (entry_at files k).name in
     let first = found.first in
-    let before : place_of files name ≡ length files → ⊥ = λ at_end. omega (arith, inside, first, at_end) in
+    let before : nth_of files name ≡ length files → ⊥ = λ at_end. omega (arith, inside, first, at_end) in
     record {
       inside = omega (arith, length_push files file, inside);
-      first = ap (place_of (files ++ file ∷ [])) (name-push files file k inside)
+      first = ap (nth_of (files ++ file ∷ [])) (name-push files file k inside)
           ∙ position_or_len_push (λ (f : FileEntry). bytes_eq f.name name) files file
-          ∙ cond-false _ _ _ (ne_eqb (place_of files name) (length files) before)
+          ∙ cond-false _ _ _ (ne_eqb (nth_of files name) (length files) before)
           ∙ found.first;
     }
 
 -- where no file has that name
-pub place-absent : (files : List FileEntry) (name : List ℕ) → content files name ≡ None → place_of files name ≡ length files
-place-absent files name none =
+pub nth-absent : (files : List FileEntry) (name : List ℕ) → content files name ≡ None → nth_of files name ≡ length files
+nth-absent files name none =
     let has_name = λ (file : FileEntry). bytes_eq file.name name in
     let nothing : FileEntry = record { name = []; bytes = [] } in
-    elim (cases_lt (place_of files name) (length files)) [
-      | inl inside ↦ absurd (none-some _ (sym none ∙ ap (option_map (λ (file : FileEntry). file.bytes)) (slice_get-get_or files (place_of files name) nothing inside)))
-      | inr past ↦ omega (arith, length-prefix_len (λ file. not (has_name file)) files, length-take (place_of files name) files, past)
+    elim (cases_lt (nth_of files name) (length files)) [
+      | inl inside ↦ absurd (none-some _ (sym none ∙ ap (option_map (λ (file : FileEntry). file.bytes)) (slice_get-get_or files (nth_of files name) nothing inside)))
+      | inr past ↦ omega (arith, length-prefix_len (λ file. not (has_name file)) files, length-take (nth_of files name) files, past)
     ]
 
 pub with_content-absent : (files : List FileEntry) (name bytes : List ℕ) → content files name ≡ None → with_content files name bytes ≡ files ++ file_of name bytes ∷ []
 with_content-absent files name bytes none =
-    cond-false (nat_lt (place_of files name) (length files)) _ _ (le-ltb (place_of files name) (length files) (omega (arith, place-absent files name none)))
+    cond-false (nat_lt (nth_of files name) (length files)) _ _ (le-ltb (nth_of files name) (length files) (omega (arith, nth-absent files name none)))
 
 pub named-push : (files : List FileEntry) (name bytes : List ℕ) → content files name ≡ None → IsNamed (files ++ file_of name bytes ∷ []) name (length files)
 named-push files name bytes none =
@@ -146,18 +146,18 @@ named-push files name bytes none =
     let at = length files in
     let here : (entry_at now at).name ≡ name = ap (λ (f : FileEntry). f.name) (get_or_push files file (record { name = []; bytes = [] }) at refl) in
     let itself : bytes_eq name name ≡ true = (bytes_eq-Decides name name).1 refl in
-    let place : place_of now name ≡ at =
+    let nth : nth_of now name ≡ at =
     position_or_len_push (λ (f : FileEntry). bytes_eq f.name name) files file
-    ∙ cond-true _ _ _ (eq-eqb (place_of files name) at (place-absent files name none))
+    ∙ cond-true _ _ _ (eq-eqb (nth_of files name) at (nth-absent files name none))
     ∙ ap (λ b. at + cond b 0 1) itself
     ∙ add-zero at in
-    let found : IsFound now at = record { inside = omega (arith, length_push files file); first = ap (place_of now) here ∙ place } in
+    let found : IsFound now at = record { inside = omega (arith, length_push files file); first = ap (nth_of now) here ∙ nth } in
     subst (λ n. IsNamed now n at) here (named-found now at found)
 
 -- A file that is found stays where it is.
 pub found-with_content : (files : List FileEntry) (name bytes : List ℕ) (k : ℕ) → IsFound files k → IsFound (with_content files name bytes) k
 found-with_content files name bytes k found =
-    let at = place_of files name in
+    let at = nth_of files name in
     elim (cases_lt at (length files)) [
       | inl inside ↦
           let is = named files name at (cond-true _ _ _ (lt-ltb at (length files) inside)) in

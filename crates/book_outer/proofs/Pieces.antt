@@ -10,9 +10,6 @@ pub record IsSent (old new : Option (List ℕ)) (all rest : List ℕ) : Type 0 w
   pub whole : all ≡ sent ++ rest
   pub appends : Appends old new sent
 
-pub sent_none : (old : Option (List ℕ)) (all : List ℕ) → IsSent old old all all
-sent_none old all = record { sent = []; whole = refl; appends = Appends-nil old }
-
 pub sent_more : (old mid new : Option (List ℕ)) (all rest : List ℕ) (n : ℕ) → IsSent old mid all rest → Appends mid new (take n rest) → IsSent old new all (drop n rest)
 sent_more old mid new all rest n is more = record {
   sent = is.sent ++ take n rest;
@@ -22,9 +19,6 @@ sent_more old mid new all rest n is more = record {
 
 pub sent_kept : (old mid new : Option (List ℕ)) (all rest : List ℕ) → IsSent old mid all rest → Keeps mid new → IsSent old new all rest
 sent_kept old mid new all rest is keeps = record { sent = is.sent; whole = is.whole; appends = Appends-kept old mid new is.sent is.appends keeps }
-
-pub sent_all : (old new : Option (List ℕ)) (all rest : List ℕ) → IsSent old new all rest → rest ≡ [] → Appends old new all
-sent_all old new all rest is none = subst (Appends old new) (sym (is.whole ∙ ap (λ l. is.sent ++ l) none ∙ append-nil is.sent)) is.appends
 
 pub sent_some : (old new : Option (List ℕ)) (all rest : List ℕ) → IsSent old new all rest → (n : ℕ) × Appends old new (take n all)
 sent_some old new all rest is = (length is.sent, subst (Appends old new) (sym (ap (take (length is.sent)) is.whole ∙ take_at is.sent rest (length is.sent) refl)) is.appends)

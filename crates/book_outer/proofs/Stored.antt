@@ -1,11 +1,11 @@
--- What the calls of a store do, told by its fields.
+-- What the calls of a store do, by its fields.
 use Rattle.std.proofs.Common.{◌≡◌, ℕ, ◌+◌, List, [], ◌++◌, drop, Option, Some, None, unwrap_or, refl, sym, ap, subst, ◌∙◌}
 use Rattle.std.proofs.lemmas.List.{append-nil}
 use Rattle.std.proofs.lemmas.Option.{none-some, same_Some}
 use Rattle.book_outer.specs.declared.store.Open.{Open}
 use Rattle.book_outer.specs.Files.{FileEntry}
 use Rattle.book_outer.specs.Folder.{Grows, ReadsOn, TakesFront, bytes_of}
-use Rattle.book_outer.specs.Store.{entry_at, with_bytes, IsFound, AreOpenFound, reading_of, writing_of}
+use Rattle.book_outer.specs.Forms.Store.{entry_at, with_bytes, IsFound, AreOpenFound, reading_of, writing_of}
 use Rattle.book_outer.proofs.Entries.{named-found, with_content-named, with_bytes-same, name-with_bytes}
 
 -- what a file that is found holds
@@ -37,13 +37,13 @@ puts_none files new writing at is found now =
 
 -- a `read`
 pub reads_on : (files : List FileEntry) (reading : Option Open) (open_file : Open) (buffer after : List ℕ) (n : ℕ) → reading ≡ Some open_file → IsFound files open_file.file
-    → TakesFront (drop open_file.place (entry_at files open_file.file).bytes) buffer after n
-    → ReadsOn (Some files) (reading_of files reading) buffer after n (Some (record { name = (entry_at files open_file.file).name; place = open_file.place + n }))
+    → TakesFront (drop open_file.at (entry_at files open_file.file).bytes) buffer after n
+    → ReadsOn (Some files) (reading_of files reading) buffer after n (Some (record { name = (entry_at files open_file.file).name; at = open_file.at + n }))
 reads_on files None open_file buffer after n is found takes = absurd (none-some open_file is)
 reads_on files (Some r) open_file buffer after n is found takes =
     let at = open_file.file in
-    subst (λ (o : Open). ReadsOn (Some files) (reading_of files (Some o)) buffer after n (Some (record { name = (entry_at files at).name; place = open_file.place + n }))) (sym (same_Some r open_file is))
-    (subst (λ b. TakesFront (drop open_file.place b) buffer after n) (sym (bytes-found files at found)) takes, refl)
+    subst (λ (o : Open). ReadsOn (Some files) (reading_of files (Some o)) buffer after n (Some (record { name = (entry_at files at).name; at = open_file.at + n }))) (sym (same_Some r open_file is))
+    (subst (λ b. TakesFront (drop open_file.at b) buffer after n) (sym (bytes-found files at found)) takes, refl)
 
 -- ---- the files that are open are found afterwards too
 

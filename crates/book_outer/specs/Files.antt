@@ -6,18 +6,18 @@ pub record FileEntry : Type 0 where
   pub name : List ℕ
   pub bytes : List ℕ
 
--- the place of the first file of that name, or the number of files
-abbrev pub place_of : List FileEntry → List ℕ → ℕ
-place_of files name = position_or_len (λ file. bytes_eq file.name name) files
+-- the number of the first file of that name among the files, counted from 0, or how many files there are
+abbrev pub nth_of : List FileEntry → List ℕ → ℕ
+nth_of files name = position_or_len (λ file. bytes_eq file.name name) files
 
 -- what the file of that name holds, none where there is no such file
 abbrev pub content : List FileEntry → List ℕ → Option (List ℕ)
-content files name = option_map (λ file. file.bytes) (slice_get files (place_of files name))
+content files name = option_map (λ file. file.bytes) (slice_get files (nth_of files name))
 
 -- The files with these bytes in the file of that name, which stands last where there was none.
 abbrev pub with_content : List FileEntry → List ℕ → List ℕ → List FileEntry
-with_content files name bytes = if nat_lt (place_of files name) (length files)
-    then slice_set files (place_of files name) (record { name = name; bytes = bytes })
+with_content files name bytes = if nat_lt (nth_of files name) (length files)
+    then slice_set files (nth_of files name) (record { name = name; bytes = bytes })
     else files ++ record { name = name; bytes = bytes } ∷ []
 
 -- no name stands twice

@@ -1,4 +1,4 @@
--- What the calls of a folder do to what it tells. Where it doesn't tell its files, only whether a file is open is known.
+-- What the calls of a folder do to what is known of it. Where its files aren't known, only whether a file is open is.
 use Rattle.std.specs.Prelude.{◌≡◌, ℕ, ◌+◌, ◌≤◌, List, [], ◌++◌, length, take, drop, Option, Some, None, IsSome, Result, Ok, Err, is_some, unwrap_or, if◌then◌else◌}
 use Rattle.book_outer.specs.declared.trouble.Trouble.{Trouble}
 use Rattle.book_outer.specs.Cause.{one_more}
@@ -7,7 +7,7 @@ use Rattle.book_outer.specs.Files.{FileEntry, content, with_content}
 -- the file that is being read, and how many of its bytes were read
 pub record Reading : Type 0 where
   pub name : List ℕ
-  pub place : ℕ
+  pub at : ℕ
 
 -- the bytes of a file, none of an absent one
 abbrev pub bytes_of : List FileEntry → List ℕ → List ℕ
@@ -15,12 +15,12 @@ bytes_of files name = unwrap_or (content files name) []
 
 -- what is left to be read
 abbrev pub rest_of : List FileEntry → Reading → List ℕ
-rest_of files reading = drop reading.place (bytes_of files reading.name)
+rest_of files reading = drop reading.at (bytes_of files reading.name)
 
 -- `begin`: at Ok the file is there and is read from its first byte; after an error no file is begun.
 abbrev pub Begins : Option (List FileEntry) → List ℕ → Result (Unit {0}) Trouble → Option Reading → Type 0
 Begins None name (Ok done) reading = IsSome reading
-Begins (Some files) name (Ok done) reading = IsSome (content files name) × (reading ≡ Some (record { name = name; place = 0 }))
+Begins (Some files) name (Ok done) reading = IsSome (content files name) × (reading ≡ Some (record { name = name; at = 0 }))
 Begins files name (Err trouble) reading = reading ≡ None
 
 -- n bytes of what is left stand at the buffer's front; none only at the end
@@ -33,7 +33,7 @@ pub record TakesFront (rest old new : List ℕ) (n : ℕ) : Type 0 where
 abbrev pub ReadsOn : Option (List FileEntry) → Option Reading → List ℕ → List ℕ → ℕ → Option Reading → Type 0
 ReadsOn None old buffer after n new = IsSome new
 ReadsOn (Some files) None buffer after n new = IsSome new
-ReadsOn (Some files) (Some reading) buffer after n new = TakesFront (rest_of files reading) buffer after n × (new ≡ Some (record { name = reading.name; place = reading.place + n }))
+ReadsOn (Some files) (Some reading) buffer after n new = TakesFront (rest_of files reading) buffer after n × (new ≡ Some (record { name = reading.name; at = reading.at + n }))
 
 -- `read`: at Ok the next bytes stand in the buffer; after an error no file is begun.
 abbrev pub Reads : Option (List FileEntry) → Option Reading → List ℕ → List ℕ → Result ℕ Trouble → Option Reading → Type 0
@@ -57,7 +57,7 @@ abbrev pub Puts : Option (List FileEntry) → Option (List ℕ) → List ℕ →
 Puts old writing bytes (Ok done) new writing' = Grows old writing bytes new × (writing' ≡ writing)
 Puts old writing bytes (Err trouble) new writing' = (n : ℕ) × Grows old writing (take n bytes) new
 
--- the count of calls of `begin` with a name that isn't among the told files, after one more call
+-- the count of calls of `begin` with a name that isn't among the known files, after one more call
 abbrev pub missed_after : Option (List FileEntry) → List ℕ → ℕ → ℕ
 missed_after None name missed = missed
 missed_after (Some files) name missed = if is_some (content files name) then missed else one_more missed

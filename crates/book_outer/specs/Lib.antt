@@ -3,5 +3,6 @@ pub mod Files
 pub mod Folder
 pub mod Sink
 pub mod State
-pub mod Store
+pub mod Host
 pub mod Memory
+pub mod Forms

@@ -12,6 +12,7 @@ pub record StoredFiles : Type 0 where
   pub writing : Option (List ℕ)
   pub begun : ℕ
   pub missed : ℕ
+  pub reads : ℕ
 
 -- a folder in memory: its files, the numbers of the calls that are to fail, how many calls there were, and the rest
 pub record MemoryFiles : Type 0 where
@@ -22,6 +23,7 @@ pub record MemoryFiles : Type 0 where
   pub writing : Option (List ℕ)
   pub begun : ℕ
   pub missed : ℕ
+  pub reads : ℕ
   pub read_faults : ℕ
   pub write_faults : ℕ
 

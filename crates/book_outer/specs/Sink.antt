@@ -1,4 +1,4 @@
--- What a put does to what a sink tells.
+-- What a put does to what is known of a sink.
 use Rattle.std.specs.Prelude.{ℕ, List, take, Option, Result, Ok, Err}
 use Rattle.std.specs.Io.KnownBytes.{Appends}
 use Rattle.book_outer.specs.declared.trouble.Trouble.{Trouble}

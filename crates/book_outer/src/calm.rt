@@ -32,7 +32,7 @@ impl CalmFolder {
     /// A folder of these files. It takes no memory.
     pub fn new(files: Files) -> CalmFolder
         requires { AreNamesDistinct files }
-        ensures { result ≡ record { files = files; reading = None; writing = None; begun = 0; missed = 0 } }
+        ensures { result ≡ record { files = files; reading = None; writing = None; begun = 0; missed = 0; reads = 0 } }
     {
         CalmFolder {
             store: Store::new(files),
@@ -48,9 +48,9 @@ impl CalmFolder {
 }
 
 impl Folder for CalmFolder {
-    ghost state = { λ c. record { files = Some c.files; reading = c.reading; writing = c.writing; begun = c.begun; missed = c.missed; read_faults = c.missed; write_faults = 0 } };
+    ghost state = { λ c. record { files = Some c.files; reading = c.reading; writing = c.writing; begun = c.begun; missed = c.missed; reads = c.reads; read_faults = c.missed; write_faults = 0 } };
 
-    ghost untold = { λ folder told. Prim.cc };
+    ghost unknown = { λ folder known. Prim.cc };
 
     fn begin(&mut self, name: &str) -> Result<(), Trouble>
         ensures answer { result ≡ (if is_some (content self.old.files name.now) then Ok tt else Err Trouble.Failed) }
@@ -59,6 +59,7 @@ impl Folder for CalmFolder {
         ensures writing { self.new.writing ≡ self.old.writing }
         ensures begun { self.new.begun ≡ one_more self.old.begun }
         ensures missed { self.new.missed ≡ missed_after (Some self.old.files) name.now self.old.missed }
+        ensures counted { self.new.reads ≡ self.old.reads }
         ensures cause { HasCause self.old.missed self.new.missed result }
     {
         self.store.begin(name, false)
@@ -73,6 +74,7 @@ impl Folder for CalmFolder {
         ensures writing { self.new.writing ≡ self.old.writing }
         ensures begun { self.new.begun ≡ self.old.begun }
         ensures missed { self.new.missed ≡ self.old.missed }
+        ensures counted { self.new.reads ≡ one_more self.old.reads }
     {
         self.store.read(buf, false)
     }
@@ -82,6 +84,7 @@ impl Folder for CalmFolder {
         ensures creates { Creates (Some self.old.files) (Some self.new.files) name.now result self.new.writing }
         ensures begun { self.new.begun ≡ self.old.begun }
         ensures missed { self.new.missed ≡ self.old.missed }
+        ensures counted { self.new.reads ≡ self.old.reads }
     {
         self.store.create(name, false)
     }
@@ -93,6 +96,7 @@ impl Folder for CalmFolder {
         ensures kept { OnErr result (self.new.files ≡ self.old.files) }
         ensures begun { self.new.begun ≡ self.old.begun }
         ensures missed { self.new.missed ≡ self.old.missed }
+        ensures counted { self.new.reads ≡ self.old.reads }
     {
         self.store.put(bytes, false)
     }

@@ -17,6 +17,7 @@ pub trait Folder {
         ensures writing { (state self.new).writing ≡ (state self.old).writing }
         ensures begun { (state self.new).begun ≡ one_more (state self.old).begun }
         ensures missed { (state self.new).missed ≡ missed_after (state self.old).files name.now (state self.old).missed }
+        ensures counted { (state self.new).reads ≡ (state self.old).reads }
         ensures cause { HasCause (state self.old).read_faults (state self.new).read_faults result }
         ensures write_faults { (state self.new).write_faults ≡ (state self.old).write_faults };
 
@@ -29,6 +30,7 @@ pub trait Folder {
         ensures writing { (state self.new).writing ≡ (state self.old).writing }
         ensures begun { (state self.new).begun ≡ (state self.old).begun }
         ensures missed { (state self.new).missed ≡ (state self.old).missed }
+        ensures counted { (state self.new).reads ≡ one_more (state self.old).reads }
         ensures cause { HasCause (state self.old).read_faults (state self.new).read_faults result }
         ensures write_faults { (state self.new).write_faults ≡ (state self.old).write_faults };
 
@@ -37,6 +39,7 @@ pub trait Folder {
         ensures creates { Creates (state self.old).files (state self.new).files name.now result (state self.new).writing }
         ensures begun { (state self.new).begun ≡ (state self.old).begun }
         ensures missed { (state self.new).missed ≡ (state self.old).missed }
+        ensures counted { (state self.new).reads ≡ (state self.old).reads }
         ensures cause { HasCause (state self.old).write_faults (state self.new).write_faults result }
         ensures read_faults { (state self.new).read_faults ≡ (state self.old).read_faults };
 
@@ -46,9 +49,10 @@ pub trait Folder {
         ensures puts { Puts (state self.old).files (state self.old).writing bytes.now result (state self.new).files (state self.new).writing }
         ensures begun { (state self.new).begun ≡ (state self.old).begun }
         ensures missed { (state self.new).missed ≡ (state self.old).missed }
+        ensures counted { (state self.new).reads ≡ (state self.old).reads }
         ensures cause { HasCause (state self.old).write_faults (state self.new).write_faults result }
         ensures read_faults { (state self.new).read_faults ≡ (state self.old).read_faults };
 
-    /// Where the files aren't told, no name is counted as missed.
-    ghost untold: { (folder : Self) → (state folder).files ≡ None → (state folder).missed ≡ 0 };
+    /// Where the files aren't known, no name is counted as missed.
+    ghost unknown: { (folder : Self) → (state folder).files ≡ None → (state folder).missed ≡ 0 };
 }

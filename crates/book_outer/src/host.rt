@@ -1,10 +1,12 @@
-//! The real folder of the process and its standard output: the trusted edge. They tell nothing of content.
+//! The real folder of the process and its standard output: the trusted edge. Nothing of their content is known.
 
-ghost use Rattle.std.specs.Prelude.{◌≡◌, ◌↔◌, ◌<◌, ◌≤◌, [], length, None, IfOk};
-ghost use Rattle.std.specs.Option.{option_map};
+ghost use Rattle.std.specs.Prelude.{◌≡◌, ◌↔◌, ◌<◌, ◌≤◌, length, None, IsSome, IfOk};
 ghost use Rattle.std.specs.IoError.{error_kind};
 ghost use Rattle.std.specs.Io.KnownBytes.{ReadConsumes, WriteAppends};
 ghost use Rattle.std.specs.Io.{ReadsAtMost};
+ghost use Rattle.book_outer.specs.Cause.{one_more, HasCause};
+ghost use Rattle.book_outer.specs.Folder.{Reads, Puts};
+ghost use Rattle.book_outer.specs.Host.{some_reading, some_writing, ReadsFile, PutsFile};
 ghost use Rattle.book_outer.specs.Sink.{Gets};
 
 use crate::folder::Folder;
@@ -21,6 +23,7 @@ pub struct HostFolder<R: Files> {
     reading: Option<R::File>,
     writing: Option<R::File>,
     begun: u64,
+    reads: u64,
     read_faults: u64,
     write_faults: u64,
 }
@@ -31,6 +34,7 @@ impl<R: Files + Drop> HostFolder<R> {
         ensures reading { (⟦<HostFolder<R> as Folder>⟧.state result).reading ≡ None }
         ensures writing { (⟦<HostFolder<R> as Folder>⟧.state result).writing ≡ None }
         ensures begun { (⟦<HostFolder<R> as Folder>⟧.state result).begun ≡ 0 }
+        ensures reads { (⟦<HostFolder<R> as Folder>⟧.state result).reads ≡ 0 }
         ensures read_faults { (⟦<HostFolder<R> as Folder>⟧.state result).read_faults ≡ 0 }
         ensures write_faults { (⟦<HostFolder<R> as Folder>⟧.state result).write_faults ≡ 0 }
     {
@@ -39,6 +43,7 @@ impl<R: Files + Drop> HostFolder<R> {
             reading: None,
             writing: None,
             begun: 0,
+            reads: 0,
             read_faults: 0,
             write_faults: 0,
         }
@@ -46,11 +51,11 @@ impl<R: Files + Drop> HostFolder<R> {
 }
 
 impl<R: Files + Drop> Folder for HostFolder<R> {
-    ghost state = { λ f. record { files = None; reading = option_map (λ _. record { name = []; place = 0 }) f.reading; writing = option_map (λ _. []) f.writing; begun = f.begun; missed = 0; read_faults = f.read_faults; write_faults = f.write_faults } };
+    ghost state = { λ f. record { files = None; reading = some_reading f.reading; writing = some_writing f.writing; begun = f.begun; missed = 0; reads = f.reads; read_faults = f.read_faults; write_faults = f.write_faults } };
 
     ghost use Rattle.std.specs.Prelude.{refl};
 
-    ghost untold = { λ _ _. refl };
+    ghost unknown = { λ _ _. refl };
 
     fn begin(&mut self, name: &str) -> Result<(), Trouble> {
         self.begun = self.begun.saturating_add(1);
@@ -60,11 +65,19 @@ impl<R: Files + Drop> Folder for HostFolder<R> {
         Ok(())
     }
 
-    fn read(&mut self, buf: &mut [u8]) -> Result<usize, Trouble> {
-        let mut file = self.reading.take().unwrap();
-        let n = counted(&mut self.read_faults, read_some(&mut file, buf))?;
-        self.reading = Some(file);
-        Ok(n)
+    fn read(&mut self, buf: &mut [u8]) -> Result<usize, Trouble>
+        requires room { 0 < length buf.old }
+        requires begun { IsSome (some_reading self.old.reading) }
+        ensures reads { Reads None (some_reading self.old.reading) buf.old buf.new result (some_reading self.new.reading) }
+        ensures bytes { ReadsFile R.File.remaining self.old.reading self.new.reading buf.new result }
+        ensures writing { self.new.writing ≡ self.old.writing }
+        ensures begun { self.new.begun ≡ self.old.begun }
+        ensures counted { self.new.reads ≡ one_more self.old.reads }
+        ensures cause { HasCause self.old.read_faults self.new.read_faults result }
+        ensures write_faults { self.new.write_faults ≡ self.old.write_faults }
+    {
+        self.reads = self.reads.saturating_add(1);
+        counted(&mut self.read_faults, read_open(&mut self.reading, buf))
     }
 
     fn create(&mut self, name: &str) -> Result<(), Trouble> {
@@ -74,19 +87,47 @@ impl<R: Files + Drop> Folder for HostFolder<R> {
         Ok(())
     }
 
-    fn put(&mut self, bytes: &[u8]) -> Result<(), Trouble> {
-        let mut file = self.writing.take().unwrap();
-        counted(&mut self.write_faults, write_whole(&mut file, bytes))?;
-        self.writing = Some(file);
-        Ok(())
+    fn put(&mut self, bytes: &[u8]) -> Result<(), Trouble>
+        requires { IsSome (some_writing self.old.writing) }
+        ensures puts { Puts None (some_writing self.old.writing) bytes.now result None (some_writing self.new.writing) }
+        ensures bytes { PutsFile R.File.contents self.old.writing self.new.writing bytes.now result }
+        ensures begun { self.new.begun ≡ self.old.begun }
+        ensures counted { self.new.reads ≡ self.old.reads }
+        ensures cause { HasCause self.old.write_faults self.new.write_faults result }
+        ensures read_faults { self.new.read_faults ≡ self.old.read_faults }
+    {
+        counted(&mut self.write_faults, put_open(&mut self.writing, bytes))
     }
+}
+
+// Reads on in the open file, which is closed at an error.
+fn read_open<F: Read + Drop>(open: &mut Option<F>, buf: &mut [u8]) -> Result<usize, Trouble>
+    requires { IsSome (some_reading open.old) }
+    ensures reads { Reads None (some_reading open.old) buf.old buf.new result (some_reading open.new) }
+    ensures bytes { ReadsFile F.remaining open.old open.new buf.new result }
+{
+    let mut file = open.take().unwrap();
+    let n = read_some(&mut file, buf)?;
+    *open = Some(file);
+    Ok(n)
+}
+
+// Writes on in the open file, which is closed at an error.
+fn put_open<F: Write + Drop>(open: &mut Option<F>, bytes: &[u8]) -> Result<(), Trouble>
+    requires { IsSome (some_writing open.old) }
+    ensures puts { Puts None (some_writing open.old) bytes.now result None (some_writing open.new) }
+    ensures bytes { PutsFile F.contents open.old open.new bytes.now result }
+{
+    let mut file = open.take().unwrap();
+    write_whole(&mut file, bytes)?;
+    *open = Some(file);
+    Ok(())
 }
 
 /// Standard output.
 #[derive(Drop)]
 pub struct StdSink<R: Print> {
-    rt: R,
-    faults: u64,
+    sink: WriterSink<Printer<R>>,
 }
 
 impl<R: Print + Drop> StdSink<R> {
@@ -94,16 +135,55 @@ impl<R: Print + Drop> StdSink<R> {
     pub fn new(rt: R) -> StdSink<R>
         ensures { (⟦<StdSink<R> as Sink>⟧.state result).faults ≡ 0 }
     {
-        StdSink { rt, faults: 0 }
+        StdSink {
+            sink: WriterSink {
+                to: Printer { rt },
+                faults: 0,
+            },
+        }
     }
 }
 
 impl<R: Print + Drop> Sink for StdSink<R> {
-    ghost state = { λ s. record { written = None; faults = s.faults } };
+    ghost state = { λ s. record { written = None; faults = s.sink.faults } };
 
     fn put(&mut self, bytes: &[u8]) -> Result<(), Trouble> {
-        let mut out = io::writer(&self.rt);
-        counted(&mut self.faults, write_whole(&mut out, bytes))
+        self.sink.put(bytes)
+    }
+}
+
+/// Writes on standard output.
+#[derive(Drop)]
+struct Printer<R: Print> {
+    rt: R,
+}
+
+impl<R: Print> Write for Printer<R> {
+    fn write(&mut self, buf: &[u8]) -> io::Result<usize> {
+        io::writer(&self.rt).write(buf)
+    }
+
+    fn flush(&mut self) -> io::Result<()> {
+        Ok(())
+    }
+}
+
+/// A sink over a writer.
+#[derive(Drop)]
+struct WriterSink<W: Write> {
+    to: W,
+    faults: u64,
+}
+
+impl<W: Write + Drop> Sink for WriterSink<W> {
+    ghost state = { λ s. record { written = None; faults = s.faults } };
+
+    fn put(&mut self, bytes: &[u8]) -> Result<(), Trouble>
+        ensures gets { Gets None None bytes.now result }
+        ensures bytes { Gets (W.contents self.old.to) (W.contents self.new.to) bytes.now result }
+        ensures cause { HasCause self.old.faults self.new.faults result }
+    {
+        counted(&mut self.faults, write_whole(&mut self.to, bytes))
     }
 }
 

@@ -1,5 +1,5 @@
 ghost use Rattle.std.specs.Prelude.{position, bytes_eq, ◌≡◌, ◌<◌, ◌++◌, [], ◌∷◌, length, slice_index_or, string_bytes, IfOk, OnOk, OnErr};
-ghost use Rattle.book_outer.specs.Store.{entries, entry_at, with_bytes};
+ghost use Rattle.book_outer.specs.Forms.Store.{entries, entry_at, with_bytes};
 
 use book_text::Memory;
 use std::alloc::Global;
@@ -64,16 +64,16 @@ impl Files {
 impl Files {
     ghost use Rattle.std.specs.Prelude.{None, MatchOption};
     ghost use Rattle.book_outer.specs.Files.{content, with_content};
-    ghost use Rattle.book_outer.specs.Store.{IsNamed};
+    ghost use Rattle.book_outer.specs.Forms.Store.{IsNamed};
 
-    /// The place of the first file of that name.
+    /// Which file is the first of that name.
     pub(crate) fn find(&self, name: &str) -> Option<usize>
         ensures { MatchOption result (content self.now name.now ≡ None) (IsNamed self.now name.now) }
     {
         position_of(&self.items, name)
     }
 
-    /// What the file at a place holds.
+    /// What the file of a number holds.
     pub(crate) fn bytes(&self, at: usize) -> &[u8]
         requires { at < length self.now }
         ensures { result.now ≡ (entry_at self.now at).bytes }
@@ -84,7 +84,7 @@ impl Files {
     /// Makes the file of that name empty, or adds one, and says where it stands.
     pub(crate) fn create(&mut self, name: &str) -> Result<usize, Memory>
         ensures created { OnOk result (self.new ≡ with_content self.old name.now []) }
-        ensures place { IfOk result (IsNamed self.new name.now) }
+        ensures nth { IfOk result (IsNamed self.new name.now) }
         ensures kept { OnErr result (self.new ≡ self.old) }
     {
         match self.find(name) {
@@ -113,7 +113,7 @@ impl Files {
         empty_at(&mut self.items, at);
     }
 
-    /// Puts bytes behind those of the file at a place. On want of memory the files are as before.
+    /// Puts bytes behind those of the file of a number. On want of memory the files are as before.
     pub(crate) fn extend(&mut self, at: usize, bytes: &[u8]) -> Result<(), Memory>
         requires { at < length self.old }
         ensures extended { OnOk result (self.new ≡ with_bytes self.old at ((entry_at self.old at).bytes ++ bytes.now)) }
@@ -225,7 +225,7 @@ impl Words {
         self.items.len()
     }
 
-    /// The word at a place, counted from 0.
+    /// The word of a number, counted from 0.
     pub fn word(&self, at: usize) -> &str
         requires { at < length self.now }
         ensures { result.now ≡ slice_index_or self.now at [] }

@@ -38,6 +38,7 @@ impl Model for MemFolder {
       writing = m.store.writing;
       begun = m.store.begun;
       missed = m.store.missed;
+      reads = m.store.reads;
       read_faults = m.read_faults;
       write_faults = m.write_faults;
     } };
@@ -56,6 +57,7 @@ impl MemFolder {
           writing = None;
           begun = 0;
           missed = 0;
+          reads = 0;
           read_faults = 0;
           write_faults = 0;
         } }
@@ -78,9 +80,9 @@ impl MemFolder {
 }
 
 impl Folder for MemFolder {
-    ghost state = { λ m. record { files = Some m.files; reading = m.reading; writing = m.writing; begun = m.begun; missed = m.missed; read_faults = m.read_faults; write_faults = m.write_faults } };
+    ghost state = { λ m. record { files = Some m.files; reading = m.reading; writing = m.writing; begun = m.begun; missed = m.missed; reads = m.reads; read_faults = m.read_faults; write_faults = m.write_faults } };
 
-    ghost untold = { λ folder told. Prim.cc };
+    ghost unknown = { λ folder known. Prim.cc };
 
     fn begin(&mut self, name: &str) -> Result<(), Trouble>
         ensures answer { result ≡ (if is_some (content self.old.files name.now) && not (is_to_fail self.old.failing self.old.calls)
@@ -92,6 +94,7 @@ impl Folder for MemFolder {
         ensures writing { self.new.writing ≡ self.old.writing }
         ensures begun { self.new.begun ≡ one_more self.old.begun }
         ensures missed { self.new.missed ≡ missed_after (Some self.old.files) name.now self.old.missed }
+        ensures counted { self.new.reads ≡ self.old.reads }
         ensures cause { HasCause self.old.read_faults self.new.read_faults result }
         ensures write_faults { self.new.write_faults ≡ self.old.write_faults }
     {
@@ -110,6 +113,7 @@ impl Folder for MemFolder {
         ensures writing { self.new.writing ≡ self.old.writing }
         ensures begun { self.new.begun ≡ self.old.begun }
         ensures missed { self.new.missed ≡ self.old.missed }
+        ensures counted { self.new.reads ≡ one_more self.old.reads }
         ensures cause { HasCause self.old.read_faults self.new.read_faults result }
         ensures write_faults { self.new.write_faults ≡ self.old.write_faults }
     {
@@ -124,6 +128,7 @@ impl Folder for MemFolder {
         ensures creates { Creates (Some self.old.files) (Some self.new.files) name.now result self.new.writing }
         ensures begun { self.new.begun ≡ self.old.begun }
         ensures missed { self.new.missed ≡ self.old.missed }
+        ensures counted { self.new.reads ≡ self.old.reads }
         ensures cause { HasCause self.old.write_faults self.new.write_faults result }
         ensures read_faults { self.new.read_faults ≡ self.old.read_faults }
     {
@@ -140,6 +145,7 @@ impl Folder for MemFolder {
         ensures kept { OnErr result (self.new.files ≡ self.old.files) }
         ensures begun { self.new.begun ≡ self.old.begun }
         ensures missed { self.new.missed ≡ self.old.missed }
+        ensures counted { self.new.reads ≡ self.old.reads }
         ensures cause { HasCause self.old.write_faults self.new.write_faults result }
         ensures read_faults { self.new.read_faults ≡ self.old.read_faults }
     {

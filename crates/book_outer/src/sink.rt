@@ -13,6 +13,6 @@ pub trait Sink {
     /// Puts bytes behind what was written.
     fn put(&mut self, bytes: &[u8]) -> Result<(), Trouble>
         ensures gets { Gets ((state self.old).written) ((state self.new).written) bytes.now result }
-        ensures untold { (state self.old).written ≡ None → (state self.new).written ≡ None }
+        ensures unknown { (state self.old).written ≡ None → (state self.new).written ≡ None }
         ensures cause { HasCause ((state self.old).faults) ((state self.new).faults) result };
 }

@@ -10,11 +10,11 @@ use crate::lists::Files;
 use crate::trouble::Trouble;
 use std::marker::Model;
 
-/// A file that is being read: its place among the files, and how many of its bytes were read.
+/// A file that is being read: which of the files it is, and how many of its bytes were read.
 #[derive(Clone, Copy, Debug)]
 pub(crate) struct Open {
     file: usize,
-    place: usize,
+    at: usize,
 }
 
 /// Files with the one that is being read and the one that is being written.
@@ -25,11 +25,12 @@ pub(crate) struct Store {
     writing: Option<usize>,
     begun: u64,
     missed: u64,
+    reads: u64,
 }
 
 impl Model for Store {
     ghost use Rattle.book_outer.specs.Memory.{StoredFiles};
-    ghost use Rattle.book_outer.specs.Store.{AreOpenFound, reading_of, writing_of};
+    ghost use Rattle.book_outer.specs.Forms.Store.{AreOpenFound, reading_of, writing_of};
 
     ghost Value = { StoredFiles };
 
@@ -39,6 +40,7 @@ impl Model for Store {
       writing = writing_of s.files s.writing;
       begun = s.begun;
       missed = s.missed;
+      reads = s.reads;
     } };
 
     ghost invariant = { λ s. AreOpenFound s.files s.reading s.writing };
@@ -47,7 +49,7 @@ impl Model for Store {
 impl Store {
     /// No file is open.
     pub(crate) fn new(files: Files) -> Store
-        ensures { result ≡ record { files = files; reading = None; writing = None; begun = 0; missed = 0 } }
+        ensures { result ≡ record { files = files; reading = None; writing = None; begun = 0; missed = 0; reads = 0 } }
     {
         Store {
             files,
@@ -55,6 +57,7 @@ impl Store {
             writing: None,
             begun: 0,
             missed: 0,
+            reads: 0,
         }
     }
 
@@ -74,6 +77,7 @@ impl Store {
         ensures writing { self.new.writing ≡ self.old.writing }
         ensures begun { self.new.begun ≡ one_more self.old.begun }
         ensures missed { self.new.missed ≡ missed_after (Some self.old.files) name.now self.old.missed }
+        ensures counted { self.new.reads ≡ self.old.reads }
         ensures later { self.old.missed ≤ self.new.missed }
     {
         let found = self.files.find(name);
@@ -86,7 +90,7 @@ impl Store {
         if fails {
             return Err(Trouble::Failed);
         }
-        self.reading = Some(Open { file, place: 0 });
+        self.reading = Some(Open { file, at: 0 });
         Ok(())
     }
 
@@ -100,16 +104,18 @@ impl Store {
         ensures writing { self.new.writing ≡ self.old.writing }
         ensures begun { self.new.begun ≡ self.old.begun }
         ensures missed { self.new.missed ≡ self.old.missed }
+        ensures counted { self.new.reads ≡ one_more self.old.reads }
     {
+        self.reads = self.reads.saturating_add(1);
         if fails {
             self.reading = None;
             return Err(Trouble::Failed);
         }
         let open = self.reading.unwrap();
-        let n = copy_behind(self.files.bytes(open.file), open.place, buf);
+        let n = copy_behind(self.files.bytes(open.file), open.at, buf);
         self.reading = Some(Open {
             file: open.file,
-            place: open.place + n,
+            at: open.at + n,
         });
         Ok(n)
     }
@@ -120,6 +126,7 @@ impl Store {
         ensures creates { Creates (Some self.old.files) (Some self.new.files) name.now result self.new.writing }
         ensures begun { self.new.begun ≡ self.old.begun }
         ensures missed { self.new.missed ≡ self.old.missed }
+        ensures counted { self.new.reads ≡ self.old.reads }
     {
         self.writing = None;
         if fails {
@@ -138,6 +145,7 @@ impl Store {
         ensures kept { OnErr result (self.new.files ≡ self.old.files) }
         ensures begun { self.new.begun ≡ self.old.begun }
         ensures missed { self.new.missed ≡ self.old.missed }
+        ensures counted { self.new.reads ≡ self.old.reads }
     {
         let at = self.writing.unwrap();
         if fails {
@@ -161,14 +169,14 @@ pub(crate) fn append(written: &mut Vec<u8>, bytes: &[u8], fails: bool) -> Result
     Ok(())
 }
 
-// Copies to the buffer's front what stands behind a place, as far as it has room, and says how much.
-fn copy_behind(bytes: &[u8], place: usize, buf: &mut [u8]) -> usize
+// Copies to the buffer's front what stands from a byte on, as far as it has room, and says how much.
+fn copy_behind(bytes: &[u8], at: usize, buf: &mut [u8]) -> usize
     requires { 0 < length buf.old }
-    ensures front { TakesFront (drop place bytes.now) buf.old buf.new result }
+    ensures front { TakesFront (drop at bytes.now) buf.old buf.new result }
     ensures room { result ≤ length buf.old }
-    ensures sum { place + result ≤ max place (length bytes.now) }
+    ensures sum { at + result ≤ max at (length bytes.now) }
 {
-    let rest = &bytes[place.min(bytes.len())..];
+    let rest = &bytes[at.min(bytes.len())..];
     let n = rest.len().min(buf.len());
     buf[..n].copy_from_slice(&rest[..n]);
     n

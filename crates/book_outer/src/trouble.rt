@@ -8,7 +8,7 @@ use std::alloc::AllocError;
 /// Why a call of the outside gave nothing.
 #[derive(Clone, Copy, Debug, PartialEq, Eq)]
 pub enum Trouble {
-    /// A fault of the outside, which a count tells.
+    /// A fault of the outside, which is counted.
     Failed,
     /// Want of memory.
     Memory,

@@ -17,7 +17,7 @@ use Rattle.std.proofs.lemmas.List.Sums.{suffix_len-le-length}
 use Rattle.book_text.proofs.Digits.{in_range-from_digit, digit_value-ascii, digits_value_after-append}
 use Rattle.book_text.proofs.MicroValue.{IsSized, sized, value-signed}
 use Rattle.book_text.proofs.Reading.{IsReading, reading_from}
-use Rattle.book_text.specs.Parts.{IsExponent}
+use Rattle.book_text.specs.Forms.Parts.{IsExponent}
 use Rattle.book_text.proofs.NumberWords.{IsFront, front-digits, front-point}
 use Rattle.book_text.proofs.Powers.{power_pos}
 use Rattle.book_text.proofs.Prefixes.{behind_suffix}

@@ -11,7 +11,7 @@ use Rattle.std.proofs.lemmas.Str.{digit_value_digit}
 use Rattle.book_text.proofs.Powers.{power_pos}
 use Rattle.book_text.proofs.Prefixes.{take_prefix-yes, drop_prefix-yes, drop_prefix-no}
 use Rattle.book_text.specs.Decimal.{are_digits, is_point}
-use Rattle.book_text.specs.Parts.{leading_digits, behind_digits, leading_fraction}
+use Rattle.book_text.specs.Forms.Parts.{leading_digits, behind_digits, leading_fraction}
 
 pub in_range-from_digit : (c : ℕ) → is_ascii_digit c ≡ true → IsInRange 48 57 c
 in_range-from_digit c e = let parts = and_parts _ _ e in (leb-true 48 c parts.0, leb-true c 57 parts.1)

@@ -5,7 +5,7 @@ use Rattle.std.proofs.lemmas.Bool.{and_from, and_left, cond_both, cond-true, con
 use Rattle.std.proofs.lemmas.List.{length-drop, take_rest}
 use Rattle.book_text.proofs.Digits.{all_digits, not_all_digits}
 use Rattle.book_text.specs.Decimal.{is_exponent_mark, are_digits}
-use Rattle.book_text.specs.Parts.{leading_digits, behind_digits, is_exponent_part, exponent_size, IsExponent}
+use Rattle.book_text.specs.Forms.Parts.{leading_digits, behind_digits, is_exponent_part, exponent_size, IsExponent}
 
 pub length-without_leading_sign : (bytes : List ℕ) → length (without_leading_sign bytes) ≤ length bytes
 length-without_leading_sign bytes = cond_both (starts_with_minus bytes) (drop 1 bytes) (without_leading_plus bytes) (λ xs. length xs ≤ length bytes)

@@ -9,7 +9,7 @@ use Rattle.book_text.specs.declared.decimal.Places.{Places}
 use Rattle.book_text.specs.declared.number.NumberFault.{NumberFault}
 use Rattle.book_text.specs.declared.number.NumberFault.TheVariants.{NotNumber, OutOfRange}
 use Rattle.book_text.specs.Decimal.{is_number, micro_size, micro_value, fraction_digits, exponent}
-use Rattle.book_text.specs.Parts.{leading_digits, behind_digits, leading_fraction, behind_fraction, is_exponent_part, exponent_size, IsExponent}
+use Rattle.book_text.specs.Forms.Parts.{leading_digits, behind_digits, leading_fraction, behind_fraction, is_exponent_part, exponent_size, IsExponent}
 
 -- the word without its sign, and its parts
 abbrev pub whole_of : List ℕ → List ℕ

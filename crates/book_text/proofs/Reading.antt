@@ -9,7 +9,7 @@ use Rattle.std.proofs.lemmas.List.Folds.{list_all-append}
 use Rattle.book_text.proofs.Prefixes.{take_prefix-yes, take_prefix-no, drop_prefix-yes, drop_prefix-no}
 use Rattle.book_text.proofs.NumberWords.{IsFront, front-digits, front-point, end-none, end-mark, IsSplit, split, digits_in, bad-digits, bad-point}
 use Rattle.book_text.specs.Decimal.{is_exponent_mark, is_point, are_digits}
-use Rattle.book_text.specs.Parts.{leading_digits, behind_digits, leading_fraction, behind_fraction, is_exponent_part}
+use Rattle.book_text.specs.Forms.Parts.{leading_digits, behind_digits, leading_fraction, behind_fraction, is_exponent_part}
 
 -- an optional sign and at least one digit
 abbrev pub are_signed_digits : List ℕ → Bool

@@ -45,7 +45,7 @@ is_comment_word-take : (b : ℕ) (rest : List ℕ) (to : ℕ) → 0 < to → is_
 is_comment_word-take b rest zero some = absurd (omega arith)
 is_comment_word-take b rest (suc to) some = refl
 
--- whether a line is passed over is told by its first byte that is no blank
+-- whether a line is passed over depends on its first byte that is no blank
 pub has_content-first : (b : ℕ) (rest : List ℕ) → is_blank b ≡ false → has_content (words_of (b ∷ rest)) ≡ not (b == 35)
 has_content-first b rest no_blank = ⊎_elim
     (λ colon. subst (λ (c : ℕ). has_content (words_of (c ∷ rest)) ≡ not (c == 35)) (sym (eqb-true b 58 colon)) (ap has_content (words_of-colon rest)))

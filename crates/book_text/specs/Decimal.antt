@@ -3,6 +3,8 @@ use Rattle.std.specs.Prelude.{ℕ, ◌+◌, ◌-◌, ◌*◌, ◌/◌, ◌%◌, 
 use Rattle.std.specs.List.{list_all, list_any, before_first, after_first, suffix_len}
 use Rattle.std.specs.Char.{is_ascii_digit}
 use Rattle.std.specs.Str.Parse.{digits_value, starts_with_minus, without_leading_sign}
+use Rattle.book_text.specs.declared.decimal.TheConstants.{MOST_MICRO}
+use Rattle.book_text.specs.declared.number.TheConstants.{MOST_NUMBER_BYTES}
 use Rattle.book_text.specs.declared.number.NumberFault.{NumberFault}
 use Rattle.book_text.specs.declared.number.NumberFault.TheVariants.{NotNumber, OutOfRange}
 
@@ -39,10 +41,10 @@ exponent_digits word = without_leading_sign (exponent word)
 abbrev pub are_digits : List ℕ → Bool
 are_digits digits = list_all is_ascii_digit digits
 
--- A number word has at most 30 bytes: an optional sign; digits with at most one point among, before or after them, and at
+-- A number word has a bounded number of bytes: an optional sign; digits with at most one point among, before or after them, and at
 -- least one digit; then optionally e or E, an optional sign, and at least one digit.
 abbrev pub is_number : List ℕ → Bool
-is_number word = nat_le (length word) 30
+is_number word = nat_le (length word) MOST_NUMBER_BYTES
     && (are_digits (whole_digits word ++ fraction_digits word)
     && (nat_lt 0 (length (whole_digits word ++ fraction_digits word))
     && (not (has_exponent word) || (are_digits (exponent_digits word) && nat_lt 0 (length (exponent_digits word))))))

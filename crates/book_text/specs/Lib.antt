@@ -1,5 +1,6 @@
 pub mod Lines
 pub mod Whole
 pub mod Decimal
+pub mod Coordinates
 pub mod Walk
-pub mod Parts
+pub mod Forms

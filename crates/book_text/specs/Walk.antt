@@ -1,4 +1,4 @@
--- The next line and the next word, told of what is left of the text.
+-- The next line and the next word, said of what is left of the text.
 use Rattle.std.specs.Prelude.{◌≡◌, ◌⊎◌, ℕ, ◌+◌, ◌-◌, ◌<◌, ◌≤◌, ◌==◌, min, List, ◌∷◌, length, drop, slice_index, slice_range}
 use Rattle.std.specs.List.{position_or_len}
 use Rattle.book_text.specs.Lines.{words_of, content_from}

@@ -6,18 +6,19 @@ ghost use Rattle.std.specs.Option.{SomeIff};
 ghost use Rattle.std.specs.Str.Parse.{digits_value, digits_value_after, starts_with_minus, without_leading_sign};
 ghost use Rattle.book_text.specs.Decimal.{micro_value, digit_at, without_trailing_zeros, fraction_text, canonical};
 ghost use Rattle.book_text.specs.Lines.{IsWord};
-ghost use Rattle.book_text.specs.Parts.{leading_digits, behind_digits, leading_fraction, behind_fraction, is_exponent_part, IsExponent};
+ghost use Rattle.book_text.specs.Forms.Parts.{leading_digits, behind_digits, leading_fraction, behind_fraction, is_exponent_part, IsExponent};
 
 use crate::Memory;
-use crate::number::{MOST_BYTES, NumberFault};
+use crate::number::{MOST_NUMBER_BYTES, NumberFault};
 use itoa::Buffer;
 
 /// A number of millionths of a Bookshelf unit.
 #[derive(Clone, Copy, Debug, PartialEq, Eq, PartialOrd, Ord)]
 pub struct Micro(pub i64);
 
-/// The greatest size of a number, in millionths.
-const MOST_MICRO: u64 = 1_000_000_000_000;
+/// The greatest size of a number that is read, in millionths: a million units. A coordinate is a number of millionths shifted
+/// by as much.
+pub const MOST_MICRO: u64 = 1_000_000_000_000;
 
 /// The most places up that keep a number other than 0 in range.
 const MOST_UP: u128 = 12;
@@ -61,13 +62,14 @@ struct Places {
 
 /// The value of a decimal word in millionths, with what is smaller dropped towards zero.
 ///
-/// The word has at most 30 bytes: an optional sign, digits with at most one point, and optionally an exponent. A word of
-/// another form is `NotNumber`. The value lies from -1,000,000 to 1,000,000 units, or else it is `OutOfRange`.
+/// The word has at most `MOST_NUMBER_BYTES` bytes: an optional sign, digits with at most one point, and optionally an
+/// exponent. A word of another form is `NotNumber`. The value lies from -1,000,000 to 1,000,000 units, which are
+/// `MOST_MICRO` millionths, or else it is `OutOfRange`.
 pub fn read_micro(word: &[u8]) -> Result<Micro, NumberFault>
     ensures { MatchResult result (λ micro. micro_value word.now ≡ Ok micro.0)
         (λ fault. micro_value word.now ≡ Err fault) }
 {
-    if word.len() > MOST_BYTES {
+    if word.len() > MOST_NUMBER_BYTES {
         return Err(NumberFault::NotNumber);
     }
     let (negative, unsigned) = split_sign(word);
@@ -99,10 +101,10 @@ fn split_sign(word: &[u8]) -> (bool, &[u8])
 
 /// The digits that these bytes begin with, and those behind a point that follows.
 fn read_mantissa(bytes: &[u8]) -> Mantissa<'_>
-    requires { length bytes.now ≤ 30 }
+    requires { length bytes.now ≤ MOST_NUMBER_BYTES }
     ensures number { result.number
         ≡ digits_value 10 (leading_digits bytes.now ++ leading_fraction (behind_digits bytes.now)) }
-    ensures small { result.number < 10 ^ 30 }
+    ensures small { result.number < 10 ^ MOST_NUMBER_BYTES }
     ensures whole { result.whole ≡ length (leading_digits bytes.now) }
     ensures fraction { result.fraction ≡ length (leading_fraction (behind_digits bytes.now)) }
     ensures rest { result.rest.now ≡ behind_fraction (behind_digits bytes.now) }
@@ -128,7 +130,7 @@ fn read_mantissa(bytes: &[u8]) -> Mantissa<'_>
 
 /// How far the bytes behind a mantissa move the point: nothing, or an exponent and no more.
 fn read_exponent(bytes: &[u8]) -> Option<Places>
-    requires { length bytes.now ≤ 30 }
+    requires { length bytes.now ≤ MOST_NUMBER_BYTES }
     ensures { MatchOption result (is_exponent_part bytes.now ≡ false) (IsExponent bytes.now) }
 {
     let signed = match bytes {
@@ -159,10 +161,10 @@ fn read_exponent(bytes: &[u8]) -> Option<Places>
 
 /// The number that the digits at the front write behind the digits of `number`, and the bytes behind them.
 fn read_digits(number: u128, bytes: &[u8]) -> (u128, &[u8])
-    requires { (number + 1) * 10 ^ length bytes.now ≤ 10 ^ 30 }
+    requires { (number + 1) * 10 ^ length bytes.now ≤ 10 ^ MOST_NUMBER_BYTES }
     ensures number { result.0 ≡ digits_value_after 10 number (leading_digits bytes.now) }
     ensures rest { result.1.now ≡ behind_digits bytes.now }
-    ensures room { (result.0 + 1) * 10 ^ length result.1.now ≤ 10 ^ 30 }
+    ensures room { (result.0 + 1) * 10 ^ length result.1.now ≤ 10 ^ MOST_NUMBER_BYTES }
 {
     let mut number = number;
     let mut rest = bytes;
@@ -177,8 +179,8 @@ fn read_digits(number: u128, bytes: &[u8]) -> (u128, &[u8])
 
 /// The number times 10 to the power `up`, over 10 to the power `down`, rounded down, if it is at most the greatest size.
 fn scaled(number: u128, up: u128, down: u128) -> Option<u64>
-    requires { number < 10 ^ 30 }
-    ensures { SomeIff result (number * 10 ^ up / 10 ^ down ≤ 10 ^ 12) (number * 10 ^ up / 10 ^ down) }
+    requires { number < 10 ^ MOST_NUMBER_BYTES }
+    ensures { SomeIff result (number * 10 ^ up / 10 ^ down ≤ MOST_MICRO) (number * 10 ^ up / 10 ^ down) }
 {
     if number == 0 {
         return Some(0);
@@ -191,7 +193,7 @@ fn scaled(number: u128, up: u128, down: u128) -> Option<u64>
 }
 
 fn signed(negative: bool, size: u64) -> i64
-    requires { size ≤ 10 ^ 12 }
+    requires { size ≤ MOST_MICRO }
     ensures value { result ≡ (if negative then neg_ℤ (pos size) else pos size) }
     ensures fits { FitsSigned w64 result }
 {
@@ -201,7 +203,7 @@ fn signed(negative: bool, size: u64) -> i64
 
 fn raised(number: u128, places: u128) -> Option<u64>
     requires { 0 < number }
-    ensures { SomeIff result (number * 10 ^ places ≤ 10 ^ 12) (number * 10 ^ places) }
+    ensures { SomeIff result (number * 10 ^ places ≤ MOST_MICRO) (number * 10 ^ places) }
 {
     if places > MOST_UP || number > u128::from(MOST_MICRO) {
         return None;
@@ -210,8 +212,8 @@ fn raised(number: u128, places: u128) -> Option<u64>
 }
 
 fn lowered(number: u128, places: u128) -> Option<u64>
-    requires { number < 10 ^ 30 }
-    ensures { SomeIff result (number / 10 ^ places ≤ 10 ^ 12) (number / 10 ^ places) }
+    requires { number < 10 ^ MOST_NUMBER_BYTES }
+    ensures { SomeIff result (number / 10 ^ places ≤ MOST_MICRO) (number / 10 ^ places) }
 {
     if places > MOST_DOWN {
         return Some(0);
@@ -220,7 +222,7 @@ fn lowered(number: u128, places: u128) -> Option<u64>
 }
 
 fn within_range(size: u128) -> Option<u64>
-    ensures { SomeIff result (size ≤ 10 ^ 12) size }
+    ensures { SomeIff result (size ≤ MOST_MICRO) size }
 {
     if size <= u128::from(MOST_MICRO) {
         Some(size as u64)
@@ -301,10 +303,10 @@ fn without_trailing_zeros(digits: &[u8]) -> &[u8]
 
 /// A law: what `put_micro` writes of a number in the range of `read_micro` is read as that number.
 pub fn canonical_reads_back()
-    ensures { (z : ℤ) → neg_ℤ (pos (10 ^ 12)) ≤ℤ z → z ≤ℤ pos (10 ^ 12) → micro_value (canonical z) ≡ Ok z }
+    ensures { (z : ℤ) → neg_ℤ (pos MOST_MICRO) ≤ℤ z → z ≤ℤ pos MOST_MICRO → micro_value (canonical z) ≡ Ok z }
 {}
 
 /// A law: what `put_micro` writes of such a number is one word of a line.
 pub fn canonical_is_word()
-    ensures { (z : ℤ) → neg_ℤ (pos (10 ^ 12)) ≤ℤ z → z ≤ℤ pos (10 ^ 12) → IsWord (canonical z) }
+    ensures { (z : ℤ) → neg_ℤ (pos MOST_MICRO) ≤ℤ z → z ≤ℤ pos MOST_MICRO → IsWord (canonical z) }
 {}

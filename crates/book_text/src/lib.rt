@@ -7,15 +7,19 @@
 //! `specs/Decimal.antt`. What is said of all texts stands on functions with an empty body, as `spaced_words`.
 #![tactic(auto)]
 
+mod coordinate;
 mod decimal;
 mod line;
 mod memory;
 mod number;
 
-pub use decimal::{Micro, canonical_is_word, canonical_reads_back, put_micro, read_micro};
+pub use coordinate::{coordinate_of, coordinates_go_back, micro_of};
+pub use decimal::{
+    MOST_MICRO, Micro, canonical_is_word, canonical_reads_back, put_micro, read_micro,
+};
 pub use line::{Line, Span, count_lines, next_line, next_word, spaced_words};
 pub use memory::Memory;
-pub use number::{NumberFault, read_whole};
+pub use number::{MOST_NUMBER_BYTES, MOST_WHOLE, NumberFault, read_whole};
 
 #[cfg(test)]
 mod tests;

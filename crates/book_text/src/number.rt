@@ -13,18 +13,18 @@ pub enum NumberFault {
 }
 
 /// The most bytes of a number word.
-pub(crate) const MOST_BYTES: usize = 30;
+pub const MOST_NUMBER_BYTES: usize = 30;
 
-/// The greatest value of a whole word.
-const MOST_WHOLE: u64 = 1 << 40;
+/// The greatest value of a whole word, 2^40. Each count and each number of sites that a file states is at most this.
+pub const MOST_WHOLE: u64 = 1 << 40;
 
-/// The value of a whole word: 1 to 30 digits and nothing else, or it is `NotNumber`.
+/// The value of a whole word: 1 to `MOST_NUMBER_BYTES` digits and nothing else, or it is `NotNumber`.
 ///
-/// The value is at most 2^40, or else it is `OutOfRange`.
+/// The value is at most `MOST_WHOLE`, or else it is `OutOfRange`.
 pub fn read_whole(word: &[u8]) -> Result<u64, NumberFault>
     ensures { result ≡ whole_value word.now }
 {
-    if word.is_empty() || word.len() > MOST_BYTES {
+    if word.is_empty() || word.len() > MOST_NUMBER_BYTES {
         return Err(NumberFault::NotNumber);
     }
     let mut value: u64 = 0;

@@ -1,5 +1,6 @@
 use crate::{
-    Micro, NumberFault, Span, count_lines, next_line, next_word, put_micro, read_micro, read_whole,
+    Micro, NumberFault, Span, coordinate_of, count_lines, micro_of, next_line, next_word,
+    put_micro, read_micro, read_whole,
 };
 use std::process::Abort;
 use std::test::Fail;
@@ -205,4 +206,12 @@ fn decimals_are_written(rt: HostRuntime) -> Result<(), Fail> {
         assert_eq!(rt; &out[2..], text);
     }
     Ok(())
+}
+
+#[test]
+fn coordinates_are_shifted(rt: HostRuntime) {
+    assert_eq!(rt; coordinate_of(Micro(-1_000_000_000_000)), 0);
+    assert_eq!(rt; coordinate_of(Micro(500_000)), 1_000_000_500_000);
+    assert_eq!(rt; micro_of(2_000_000_000_000), Micro(1_000_000_000_000));
+    assert_eq!(rt; micro_of(999_999_999_999), Micro(-1));
 }

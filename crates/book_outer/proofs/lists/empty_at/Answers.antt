@@ -1,6 +1,6 @@
 use Rattle.std.proofs.Common.{ap, ◌∙◌}
 use Rattle.book_outer.proofs.Entries.{entries-set}
-use Rattle.book_outer.specs.Store.{entries, with_bytes}
+use Rattle.book_outer.specs.Forms.Store.{entries, with_bytes}
 use Rattle.book_outer.proofs.lists.empty_at.Goals as goal
 
 pub returns : goal.returns

@@ -2,7 +2,7 @@ use Rattle.std.proofs.Common.{◌++◌, ap, sym, ◌∙◌}
 use Rattle.std.proofs.lemmas.Result.{err_from_is_err_and}
 use Rattle.book_outer.proofs.Entries.{entries-set, entry_at-entries, with_bytes-same}
 use Rattle.book_outer.specs.Files.{FileEntry}
-use Rattle.book_outer.specs.Store.{entries, with_bytes}
+use Rattle.book_outer.specs.Forms.Store.{entries, with_bytes}
 use Rattle.book_outer.proofs.lists.extend_at.Goals as goal
 
 pub returns-in_err-extend_from_slice-clause-kept : goal.returns-in_err-extend_from_slice-clause-kept

@@ -1,6 +1,6 @@
 use Rattle.std.proofs.Common.{◌≡◌, ◌+◌, ◌*◌, ◌^◌, ◌≤◌, length}
 use Rattle.std.specs.Str.Parse.{digits_value_after}
-use Rattle.book_text.specs.Parts.{leading_digits, behind_digits}
+use Rattle.book_text.specs.Forms.Parts.{leading_digits, behind_digits}
 use Rattle.book_text.proofs.decimal.read_digits.Given as goal
 
 abbrev pub invariant-loop-rest : goal.invariant-loop-rest

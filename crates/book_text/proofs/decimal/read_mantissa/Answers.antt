@@ -1,6 +1,6 @@
 use Rattle.std.proofs.Common.{◌≡◌, ◌-◌, length, take, drop, get_or, sym, ap, ◌∙◌, arith}
 use Rattle.std.specs.Str.Parse.{digits_value, digits_value_after}
-use Rattle.book_text.specs.Parts.{leading_digits, behind_digits, leading_fraction}
+use Rattle.book_text.specs.Forms.Parts.{leading_digits, behind_digits, leading_fraction}
 use Rattle.book_text.proofs.Digits.{digits_value_after-append, small-from_room, leading_fraction-point}
 use Rattle.book_text.proofs.Powers.{power_mono}
 use Rattle.book_text.proofs.decimal.read_mantissa.Goals as goal

@@ -35,7 +35,7 @@ returns-in-Some-scaled c =
       fraction_is = c.read_mantissa-mantissa.ensures.fraction;
       rest_is = c.read_mantissa-mantissa.ensures.rest;
     } in
-    let sized = read-sized c.args.word.now unsigned _ _ _ _ c.split_sign-negative.ensures.rest read c.in-Some.places c.if-word-gt-MOST_BYTES.false c.if-mantissa-eq0.false c.in-Some.ensures in
+    let sized = read-sized c.args.word.now unsigned _ _ _ _ c.split_sign-negative.ensures.rest read c.in-Some.places c.if-word-gt-MOST_NUMBER_BYTES.false c.if-mantissa-eq0.false c.in-Some.ensures in
     let in_range = c.in-Some-scaled.ensures in
     value-signed c.args.word.now _ _ _ sized in_range.0 c.split_sign-negative.ensures.negative in_range.1
     ∙ ap Ok (sym c.signed.ensures.value ∙ sym (to_z-of_z w64 c.signed.result c.signed.ensures.fits))
@@ -49,5 +49,5 @@ returns-in-None c =
       fraction_is = c.read_mantissa-mantissa.ensures.fraction;
       rest_is = c.read_mantissa-mantissa.ensures.rest;
     } in
-    let sized = read-sized c.args.word.now unsigned _ _ _ _ c.split_sign-negative.ensures.rest read c.in-Some.places c.if-word-gt-MOST_BYTES.false c.if-mantissa-eq0.false c.in-Some.ensures in
+    let sized = read-sized c.args.word.now unsigned _ _ _ _ c.split_sign-negative.ensures.rest read c.in-Some.places c.if-word-gt-MOST_NUMBER_BYTES.false c.if-mantissa-eq0.false c.in-Some.ensures in
     value-out_of_range c.args.word.now _ sized c.in-None.ensures

@@ -1,7 +1,7 @@
 use Rattle.std.proofs.Common.{bytes_eq, position, sym, ap, ◌∙◌}
 use Rattle.book_outer.proofs.Entries.{position-map, searched}
 use Rattle.book_outer.specs.Files.{FileEntry}
-use Rattle.book_outer.specs.Store.{entry_of, entries}
+use Rattle.book_outer.specs.Forms.Store.{entry_of, entries}
 use Rattle.book_outer.proofs.lists.Files.find.Goals as goal
 
 pub returns : goal.returns

@@ -2,7 +2,7 @@ use Rattle.std.proofs.Common.{◌≡◌, ℕ, ◌++◌, Some, take, refl, sym, s
 use Rattle.std.proofs.lemmas.Result.{err_from_is_err_and}
 use Rattle.book_outer.specs.Folder.{Grows}
 use Rattle.book_outer.specs.Memory.{StoredFiles}
-use Rattle.book_outer.specs.Store.{IsFound, entry_at, writing_of}
+use Rattle.book_outer.specs.Forms.Store.{IsFound, entry_at, writing_of}
 use Rattle.book_outer.proofs.Entries.{found-with_bytes}
 use Rattle.book_outer.proofs.Stored.{puts_all, puts_none, open_kept}
 use Rattle.book_outer.proofs.store.Store.put.Goals as goal

@@ -1,0 +1,2 @@
+-- What the code is proved by and no public contract cites.
+pub mod Parts
