@@ -1,0 +1,12 @@
+mod Fronts
+mod Places
+mod Counts
+mod Ranges
+mod Sorting
+mod Halving
+mod Partitions
+mod Homes
+mod Insides
+mod Goods
+mod Sorts
+mod Balance

@@ -1,0 +1,4 @@
+pub mod Regions
+pub mod Cut
+pub mod Order
+pub mod Forms
