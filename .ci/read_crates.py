@@ -53,7 +53,7 @@ class Function:
 
 @dataclass
 class Source:
-    """A file of code. Each line is part of a public promise, of a view of a public type, or private, or an import."""
+    """A file of code. Each line is part of a public promise, of a view or invariant of a public type, or private, or an import."""
 
     path: str
     lines: list
@@ -127,7 +127,7 @@ def read_members(source, begin, end, has_public, all_shown, views):
                 close += 1
             kind = "public" if has_public and all_shown else "private"
             if kind == "public" and views:
-                kind = {"view": "view", "invariant": "private"}.get(ghost[1], kind)
+                kind = "view" if ghost[1] in ("view", "invariant") else kind
             source.mark(at, close + 1, kind)
             at = close
         at += 1
