@@ -5,6 +5,7 @@ use Rattle.std.proofs.Math.Nat.{mul-le-mul_left, mul-le-mul_right, add-mul}
 use Rattle.std.proofs.lemmas.List.Sums.{sum_by-cons, sum_by_more, sum_by-take-le}
 use Rattle.book_design.specs.declared.parts.Core.{Core}
 use Rattle.book_design.specs.WellFormed.{IsGoodCore}
+use Rattle.net_model.specs.declared.limits.TheConstants.{MOST_WEIGHT}
 use Rattle.net_model.specs.declared.parts.Near.{Near}
 use Rattle.net_model.specs.declared.parts.FixedPin.{FixedPin}
 use Rattle.relax_system.specs.declared.points.Near.{Near as Neighbour}
@@ -37,15 +38,15 @@ sum_in_box axis core (pin ∷ pins) box =
     }
 
 -- the sum of a light point's pins fits 128 bits
-sum_fits : (axis : Axis) (core : Core) (pins : List FixedPin) → IsBox axis core → pins_weight pins ≤ 2 ^ 40 → pins_sum axis core pins < 2 ^ 128
+sum_fits : (axis : Axis) (core : Core) (pins : List FixedPin) → IsBox axis core → pins_weight pins ≤ MOST_WEIGHT → pins_sum axis core pins < 2 ^ 128
 sum_fits axis core pins box light =
     let high = (sum_in_box axis core pins box).high in
     let weights = mul-le-mul_right (coordinate (high_end axis core)) light in
-    let places = mul-le-mul_left (2 ^ 40) box.limit in
+    let places = mul-le-mul_left MOST_WEIGHT box.limit in
     omega arith
 
 -- so it does with one pin more, of all pins of a light point
-pub next_fits : (axis : Axis) (core : Core) (pins : List FixedPin) (i : ℕ) (d : FixedPin) → IsGoodCore core → pins_weight pins ≤ 2 ^ 40 → i < length pins
+pub next_fits : (axis : Axis) (core : Core) (pins : List FixedPin) (i : ℕ) (d : FixedPin) → IsGoodCore core → pins_weight pins ≤ MOST_WEIGHT → i < length pins
     → pins_sum axis core (take i pins) + (get_or pins i d).weight * clamped axis core (get_or pins i d) < 2 ^ 128
 next_fits axis core pins i d good light inside =
     let part = sum_by-take-le (λ (p : FixedPin). p.weight) pins (i + 1) in

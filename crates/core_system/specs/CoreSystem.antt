@@ -1,5 +1,5 @@
 -- The system of a network on an axis, where all points share the core: its range on the axis is the box of each.
-use Rattle.std.specs.Prelude.{ℕ, ◌*◌, ◌^◌, List, map, sum_by, ℤ, pos, nat_abs, ◌+ℤ◌}
+use Rattle.std.specs.Prelude.{ℕ, ◌*◌, List, map, sum_by, ℤ, nat_abs, ◌+ℤ◌}
 use Rattle.std.specs.Int.{int_min, int_max}
 use Rattle.relax_system.specs.declared.points.Near.{Near as Neighbour}
 use Rattle.relax_system.specs.declared.points.Point.{Point}
@@ -9,6 +9,7 @@ use Rattle.net_model.specs.declared.parts.FixedPin.{FixedPin}
 use Rattle.net_model.specs.Values.{PointValue, NetworkValue}
 use Rattle.core_system.specs.declared.axis.Axis.{Axis}
 use Rattle.core_system.specs.declared.axis.Axis.TheVariants.{X, Y}
+use Rattle.core_system.specs.declared.project.TheConstants.{SHIFT}
 
 -- the core's range on an axis
 abbrev pub low_end : Axis → Core → ℤ
@@ -24,9 +25,9 @@ abbrev pub place_of : Axis → FixedPin → ℤ
 place_of X pin = pin.x
 place_of Y pin = pin.y
 
--- a place in millionths as a coordinate: shifted by 1,000,000,000,000
+-- a place in millionths as a coordinate
 abbrev pub coordinate : ℤ → ℕ
-coordinate at = nat_abs (at +ℤ pos (10 ^ 12))
+coordinate at = nat_abs (at +ℤ SHIFT)
 
 -- a fixed pin's place, clamped to the core's range
 abbrev pub clamped : Axis → Core → FixedPin → ℕ

@@ -1,6 +1,6 @@
 //! From a network to its system on an axis.
 
-ghost use Rattle.std.specs.Prelude.{◌≡◌, ℕ, ◌*◌, ◌^◌, ◌<◌, ◌≤◌, length, map, sum_by, IfOk};
+ghost use Rattle.std.specs.Prelude.{◌≡◌, ℕ, ◌*◌, ◌<◌, ◌≤◌, length, map, sum_by, IfOk};
 ghost use Rattle.pad_reach.specs.Chain.{HasChain};
 ghost use Rattle.book_files.specs.Ranges.{IsInRange};
 ghost use Rattle.book_design.specs.WellFormed.{IsGoodCore};
@@ -13,12 +13,12 @@ ghost use Rattle.core_system.specs.CoreSystem.{as_neighbour, point_of, system_of
 use crate::axis::Axis;
 use book_design::Core;
 use book_text::Memory;
-use net_model::{FixedPin, Network};
+use net_model::{FixedPin, MOST_WEIGHT, Network};
 use relax_system::{Near, NearList, Point, Points, System};
 use std::alloc::Global;
 
-/// What a coordinate is shifted by, so that it isn't negative.
-const SHIFT: i64 = 1_000_000_000_000;
+/// What is added to a place in millionths to make it a coordinate, so that none is negative: 1,000,000 units.
+pub const SHIFT: i64 = 1_000_000_000_000;
 
 /// The system of a network on an axis, where all points share the core.
 ///
@@ -74,7 +74,7 @@ fn neighbours(alloc: Global, near: &[net_model::Near]) -> Result<NearList, Memor
 /// The weight of the fixed pins, and the sum of weight times place, each clamped to the core.
 fn constants(axis: Axis, core: Core, pins: &[FixedPin]) -> (u64, u128)
     requires core { IsGoodCore core }
-    requires light { sum_by (λ pin. pin.weight) pins.now ≤ 2 ^ 40 }
+    requires light { sum_by (λ pin. pin.weight) pins.now ≤ MOST_WEIGHT }
     ensures anchor { result.0 ≡ sum_by (λ pin. pin.weight) pins.now }
     ensures anchored { result.1 ≡ sum_by (λ pin. pin.weight * clamped axis core pin) pins.now }
 {

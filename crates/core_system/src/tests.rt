@@ -97,6 +97,8 @@ fn a_design_has_a_system_on_each_axis(rt: HostRuntime) -> Result<(), Fail> {
         assert_eq!(rt; system.points(), 2);
         assert!(rt; is_same(&system, 0, high, first, 1));
         assert!(rt; is_same(&system, 1, high, second, 0));
+        let steps = reach(rt.alloc(), &system).expect(&rt, "chains");
+        assert_eq!(rt; (steps.toward(0), steps.distance(1)), (None, 0));
     }
     Ok(())
 }
