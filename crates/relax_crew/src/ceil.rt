@@ -36,6 +36,7 @@ pub fn greatest<R: Threads + Sync, G: Gate>(
     requires some { 0 < length system.now }
     requires seats { IsCrewSize seats }
     ensures system { IfOk result (λ a. a.seat.system ≡ system.now) }
+    ensures parts { IfOk result (λ a. a.seat.parts ≡ seats) }
     ensures start { IfOk result (λ a. a.seat.start ≡ starts_of Ceil system.now) }
     ensures greatest { IfOk result (λ a. IsGreatest system.now a.seat.seen) }
     ensures lowers { IfOk result (λ a. a.lowers ≡ a.seat.moves) }

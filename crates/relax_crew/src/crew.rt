@@ -5,7 +5,7 @@ ghost use Rattle.std.specs.Thread.{IsSync};
 ghost use Rattle.relax_system.specs.Sides.{starts_of, IsExtremal};
 ghost use Rattle.relax_table.specs.Seats.{IsSeatOf};
 ghost use Rattle.relax_crew.specs.Crew.{IsCrewSize};
-ghost use Rattle.relax_crew.specs.Forms.Turns.{AllSeated, AllExtremal};
+ghost use Rattle.relax_crew.specs.Forms.Turns.{AllSeated, AllSingle, AllExtremal, SweepsOnce, BeginsWithSweep, IsTurn};
 
 use crate::spaced::Spaced;
 use crate::range::{MOST_SEATS, range_of};
@@ -33,6 +33,7 @@ pub(crate) fn solve<D: Direction, R: Threads + Sync, G: Gate>(
     ensures system { IfOk result (λ s. s.system ≡ system.now) }
     ensures start { IfOk result (λ s. s.start ≡ starts_of D.side system.now) }
     ensures extremal { IfOk result (λ s. IsExtremal D.side system.now s.seen) }
+    ensures parts { IfOk result (λ s. s.parts ≡ seats) }
 {
     let points = system.points();
     let start = starts(alloc, D::side(), system)?;
@@ -65,9 +66,11 @@ fn spaced_seats<D: Direction>(
     seats: usize,
 ) -> Result<Vec<Spaced<D>>, Memory>
     requires own { IsSeatOf table.now first }
+    requires single { first.parts ≡ 1 }
     requires some { 1 ≤ seats }
     ensures count { IfOk result (λ b. vec_len b ≡ seats) }
     ensures seated { IfOk result (λ b. AllSeated table.now b.items) }
+    ensures single { IfOk result (λ b. AllSingle b.items) }
 {
     let mut spaced = Vec::new(alloc);
     for _ in 1..seats {
@@ -89,8 +92,10 @@ fn run<D: Direction, R: Threads + Sync, G: Gate>(
     requires few { points ≤ MOST_POINTS }
     requires some { IsCrewSize (length spaced.old) }
     requires seated { AllSeated table.now spaced.old }
+    requires single { AllSingle spaced.old }
     ensures count { length spaced.new ≡ length spaced.old }
     ensures seated { AllSeated table.now spaced.new }
+    ensures single { AllSingle spaced.new }
     ensures extremal { AllExtremal D.side table.now.system spaced.new }
 {
     let seats = spaced.len();
@@ -99,26 +104,31 @@ fn run<D: Direction, R: Threads + Sync, G: Gate>(
         spaced,
         seats,
         &|k, one: &mut Spaced<D>|
-            requires { IsSync G.row × (k < seats) × (seats ≤ MOST_SEATS) × (points ≤ MOST_POINTS) × (points ≡ length table.now.system) × IsSeatOf table.now one.now.seat }
-            ensures { IsSeatOf table.entry.now one.exit.now.seat × IsExtremal D.side table.entry.now.system one.exit.now.seat.seen }
-        { take_turn(table, one, k, range_of(k, seats, points), gate) },
+            requires { IsSync G.row × (k < seats) × (seats ≤ MOST_SEATS) × (points ≤ MOST_POINTS) × (points ≡ length table.now.system) × IsSeatOf table.now one.now.seat × (one.now.seat.parts ≡ 1) }
+            ensures { IsSeatOf table.entry.now one.exit.now.seat × IsExtremal D.side table.entry.now.system one.exit.now.seat.seen × (one.exit.now.seat.parts ≡ 1) }
+        { take_turn(table, one, k, seats, points, gate) },
     );
 }
 
-/// What the thread of a seat does. Its steps aren't counted.
+/// What the thread of seat `k` does: first of all a sweep over its own range. Its steps aren't counted.
 fn take_turn<D: Direction, G: Gate>(
     table: &SideTable<'_, D>,
     one: &mut Spaced<D>,
     k: usize,
-    range: (usize, usize),
+    seats: usize,
+    points: usize,
     gate: &G,
 )
     requires own { IsSeatOf table.now one.old.seat }
-    requires order { range.0 ≤ range.1 }
-    requires within { range.1 ≤ length table.now.system }
+    requires points { points ≡ length table.now.system }
+    requires few { points ≤ MOST_POINTS }
+    requires seat { k < seats }
+    requires seats { seats ≤ MOST_SEATS }
     ensures own { IsSeatOf table.now one.new.seat }
     ensures extremal { IsExtremal D.side table.now.system one.new.seat.seen }
+    ensures turn { IsTurn table.now.system k seats one.old.seat one.new.seat }
 {
+    let range = range_of(k, seats, points);
     work::<D, Brand, G>(table, &mut one.seat, k, range, gate, Blank::new(1));
 }
 
@@ -139,6 +149,7 @@ fn work<D: Direction, L: Ledger, G: Gate>(
     requires any { 0 < L.parts }
     ensures own { IsSeatOf table.now seat.new }
     ensures extremal { IsExtremal D.side table.now.system seat.new.seen }
+    ensures swept { BeginsWithSweep table.now.system range.0 range.1 seat.old seat.new }
 {
     let mut steps = Steps::<L>::new(blank);
     let (from, to) = range;
@@ -160,7 +171,7 @@ fn first_sweep<D: Direction, L: Ledger, G: Gate>(
     requires order { range.0 ≤ range.1 }
     requires within { range.1 ≤ length table.now.system }
     ensures own { IsSeatOf table.now seat.new }
-    ensures fetches { seat.new.fetches ≡ seat.old.fetches + (range.1 - range.0) }
+    ensures swept { SweepsOnce table.now.system range.0 range.1 seat.old seat.new }
 {
     let (from, to) = range;
     for i in from..to {
@@ -169,12 +180,14 @@ fn first_sweep<D: Direction, L: Ledger, G: Gate>(
     }
 }
 
-/// Joins all seats into one.
+/// One seat, into which all are joined.
 fn joined<D: Direction>(table: &SideTable<'_, D>, mut spaced: Vec<Spaced<D>>) -> SideSeat<D>
     requires some { 1 ≤ vec_len spaced }
     requires seated { AllSeated table.now spaced.items }
+    requires single { AllSingle spaced.items }
     requires extremal { AllExtremal D.side table.now.system spaced.items }
     ensures own { IsSeatOf table.now result }
+    ensures parts { result.parts ≡ vec_len spaced }
     ensures extremal { IsExtremal D.side table.now.system result.seen }
 {
     let Some(last) = spaced.pop() else {

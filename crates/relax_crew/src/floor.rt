@@ -36,6 +36,7 @@ pub fn least<R: Threads + Sync, G: Gate>(
     requires some { 0 < length system.now }
     requires seats { IsCrewSize seats }
     ensures system { IfOk result (λ a. a.seat.system ≡ system.now) }
+    ensures parts { IfOk result (λ a. a.seat.parts ≡ seats) }
     ensures start { IfOk result (λ a. a.seat.start ≡ starts_of Floor system.now) }
     ensures least { IfOk result (λ a. IsLeast system.now a.seat.seen) }
     ensures raises { IfOk result (λ a. a.raises ≡ a.seat.moves) }
