@@ -7,7 +7,8 @@ use Rattle.book_files.specs.declared.fault.TextKind.{TextKind}
 use Rattle.book_files.specs.declared.fault.TextKind.TheVariants.{BadHeader, BadLine, BadNumber, CountMismatch}
 use Rattle.book_files.specs.Words.{is_keyed}
 use Rattle.book_files.specs.Entries.{AuxEntry}
-use Rattle.book_files.specs.Aux.{is_file_name, named, aux_of, aux_by_suffix, names_of, behind_two, aux_meaning, aux_ending, aux_form}
+use Rattle.book_files.specs.Aux.{is_file_name, named, behind_two}
+use Rattle.book_files.specs.Forms.Aux.{aux_of, aux_by_suffix, names_of, aux_meaning, aux_ending, aux_form}
 use Rattle.book_files.specs.AuxRules.{AreFileNames, IsMissingOrTwice, AreBadNames, IsAuxItem, IsAuxLineFault, IsAuxFile, aux_grammar}
 use Rattle.book_files.specs.Shapes.{IsEmptyFault}
 use Rattle.book_files.proofs.Bridge.{Decides}
@@ -140,30 +141,30 @@ begun_by line = tested (is_keyed (codes "rowbasedplacement") line.words) refl wh
   tested true keyed = of_names keyed (names_of (behind_two line.words)) (named_by (behind_two line.words))
   tested false other = other
 
-item : (before : List AuxEntry) (line : NumberedLine) (told : AuxEntry) → aux_meaning before line ≡ Ok told → IsAuxItem before line told
-item [] line told means = let is = subst (Begun line) means (begun_by line) in record { first = refl; keyed = is.0; names = is.1 }
-item (entry ∷ before) line told means = cc
+item : (before : List AuxEntry) (line : NumberedLine) (stated : AuxEntry) → aux_meaning before line ≡ Ok stated → IsAuxItem before line stated
+item [] line stated means = let is = subst (Begun line) means (begun_by line) in record { first = refl; keyed = is.0; names = is.1 }
+item (entry ∷ before) line stated means = cc
 
-item_back : (before : List AuxEntry) (line : NumberedLine) (told : AuxEntry) → IsAuxItem before line told → aux_meaning before line ≡ Ok told
-item_back [] line told is = cond-true (is_keyed (codes "rowbasedplacement") line.words) (names_of (behind_two line.words)) (Err BadHeader) is.keyed ∙ named_back (behind_two line.words) told is.names
-item_back (entry ∷ before) line told is = let e = is.first in cc
+item_back : (before : List AuxEntry) (line : NumberedLine) (stated : AuxEntry) → IsAuxItem before line stated → aux_meaning before line ≡ Ok stated
+item_back [] line stated is = cond-true (is_keyed (codes "rowbasedplacement") line.words) (names_of (behind_two line.words)) (Err BadHeader) is.keyed ∙ named_back (behind_two line.words) stated is.names
+item_back (entry ∷ before) line stated is = let e = is.first in cc
 
 fault : (before : List AuxEntry) (line : NumberedLine) (kind : TextKind) → aux_meaning before line ≡ Err kind → IsAuxLineFault before line kind
 fault [] line kind means = subst (Begun line) means (begun_by line)
 fault (entry ∷ before) line BadHeader means = cc
 fault (entry ∷ before) line BadLine means = tt
 fault (entry ∷ before) line BadNumber means = cc
-fault (entry ∷ before) line (CountMismatch told found) means = cc
+fault (entry ∷ before) line (CountMismatch stated found) means = cc
 
 fault_back : (before : List AuxEntry) (line : NumberedLine) (kind : TextKind) → IsAuxLineFault before line kind → aux_meaning before line ≡ Err kind
 fault_back [] line BadHeader is = cond-false (is_keyed (codes "rowbasedplacement") line.words) (names_of (behind_two line.words)) (Err BadHeader) is
 fault_back [] line BadLine is = cond-true (is_keyed (codes "rowbasedplacement") line.words) (names_of (behind_two line.words)) (Err BadHeader) is.0 ∙ badly_named_back (behind_two line.words) is.1
 fault_back [] line BadNumber is = absurd is
-fault_back [] line (CountMismatch told found) is = absurd is
+fault_back [] line (CountMismatch stated found) is = absurd is
 fault_back (entry ∷ before) line BadHeader is = absurd is
 fault_back (entry ∷ before) line BadLine is = refl
 fault_back (entry ∷ before) line BadNumber is = absurd is
-fault_back (entry ∷ before) line (CountMismatch told found) is = absurd is
+fault_back (entry ∷ before) line (CountMismatch stated found) is = absurd is
 
 file : (items : List AuxEntry) (entry : AuxEntry) → aux_ending items ≡ Ok entry → IsAuxFile items entry
 file [] entry ends = cc
@@ -177,14 +178,14 @@ end : (items : List AuxEntry) (kind : TextKind) → aux_ending items ≡ Err kin
 end [] BadHeader ends = tt
 end [] BadLine ends = cc
 end [] BadNumber ends = cc
-end [] (CountMismatch told found) ends = cc
+end [] (CountMismatch stated found) ends = cc
 end (first ∷ items) kind ends = cc
 
 end_back : (items : List AuxEntry) (kind : TextKind) → IsEmptyFault items kind → aux_ending items ≡ Err kind
 end_back [] BadHeader is = refl
 end_back [] BadLine is = absurd is
 end_back [] BadNumber is = absurd is
-end_back [] (CountMismatch told found) is = absurd is
+end_back [] (CountMismatch stated found) is = absurd is
 end_back (first ∷ items) kind is = absurd is
 
 pub aux_decided : Decides aux_form aux_grammar

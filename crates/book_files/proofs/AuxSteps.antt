@@ -5,9 +5,9 @@ use Rattle.book_files.specs.declared.fault.TextKind.{TextKind}
 use Rattle.book_files.specs.declared.records.AuxFile.{AuxFile}
 use Rattle.book_files.specs.declared.aux.AuxSoFar.{AuxSoFar}
 use Rattle.book_files.specs.Entries.{AuxEntry, aux_entry}
-use Rattle.book_files.specs.Aux.{aux_form, aux_meaning}
-use Rattle.book_files.specs.Progress.{StandsFor, Refuses}
-use Rattle.book_files.specs.SoFar.{IsAuxSoFar}
+use Rattle.book_files.specs.Forms.Aux.{aux_form, aux_meaning}
+use Rattle.book_files.specs.Forms.Progress.{StandsFor, Refuses}
+use Rattle.book_files.specs.Forms.SoFar.{IsAuxSoFar}
 use Rattle.book_files.proofs.Progresses.{kept, refused}
 
 -- before the first line there is no item

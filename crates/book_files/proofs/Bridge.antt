@@ -5,14 +5,15 @@ use Rattle.book_files.specs.declared.fault.TextKind.{TextKind}
 use Rattle.book_files.specs.declared.fault.TextFault.{TextFault}
 use Rattle.book_files.specs.declared.fault.ReadError.{ReadError}
 use Rattle.book_files.specs.declared.fault.ReadError.TheVariants.{Fault, Memory}
-use Rattle.book_files.specs.Form.{Form, Mean, Reads, FirstFault, FormAnswers}
+use Rattle.book_files.specs.Forms.Form.{Form, Mean}
+use Rattle.book_files.proofs.FormTexts.{Reads, FirstFault, FormAnswers}
 use Rattle.book_files.specs.Grammar.{Grammar, AreItems, IsReading, IsFirstFault, Answers, HasOneAnswer}
 use Rattle.book_files.proofs.Readings.{has_one_answer}
 
 -- What the form says of one line and of the end is what the rules say, both ways.
 pub record Decides {I R : Type 0} (form : Form I R) (grammar : Grammar I R) : Type 0 where
-  pub item : (before : List I) (line : NumberedLine) (told : I) → form.meaning before line ≡ Ok told → grammar.IsItem before line told
-  pub item_back : (before : List I) (line : NumberedLine) (told : I) → grammar.IsItem before line told → form.meaning before line ≡ Ok told
+  pub item : (before : List I) (line : NumberedLine) (stated : I) → form.meaning before line ≡ Ok stated → grammar.IsItem before line stated
+  pub item_back : (before : List I) (line : NumberedLine) (stated : I) → grammar.IsItem before line stated → form.meaning before line ≡ Ok stated
   pub named : (before : List I) (line : NumberedLine) (kind : TextKind) → form.meaning before line ≡ Err kind → grammar.IsLineFault before line kind
   pub named_back : (before : List I) (line : NumberedLine) (kind : TextKind) → grammar.IsLineFault before line kind → form.meaning before line ≡ Err kind
   pub file : (items : List I) (records : R) → form.ending items ≡ Ok records → grammar.IsFile items records

@@ -3,7 +3,8 @@ use Rattle.std.proofs.Common.{◌≡◌, ℕ, ◌+◌, ◌≤◌, Bool, true, fa
 use Rattle.std.specs.Option.{IfSome}
 use Rattle.std.specs.List.{AllByRecursion, filter_map, cons_option}
 use Rattle.book_text.specs.Lines.{NumberedLine, lines_of, numbered_from, content_of, has_content}
-use Rattle.book_files.specs.Form.{Form, Mean, Reads}
+use Rattle.book_files.specs.Forms.Form.{Form, Mean}
+use Rattle.book_files.proofs.FormTexts.{Reads}
 use Rattle.book_files.proofs.FewLines.{length-lines_of-le}
 
 length-onto : {A : Type 0} (keep : Bool) (x : A) (xs : List A) (n : ℕ) → length xs ≤ n → length (cond keep (x ∷ xs) xs) ≤ suc n

@@ -10,14 +10,17 @@ use Rattle.book_text.specs.Lines.{NumberedLine, content_of, end_line}
 use Rattle.book_files.specs.declared.fault.TextKind.{TextKind}
 use Rattle.book_files.specs.declared.fault.TextKind.TheVariants.{BadHeader, BadLine, CountMismatch}
 use Rattle.book_files.specs.declared.nets.NetsSoFar.{NetsSoFar}
-use Rattle.book_files.specs.Words.{◌>>=◌, latest, is_header, is_keyed, is_colon_word, count_of, whole_of, number_of}
+use Rattle.book_files.specs.Words.{latest, is_header, is_keyed, is_colon_word}
+use Rattle.book_files.specs.Forms.Words.{◌>>=◌, count_of, whole_of, number_of}
 use Rattle.book_files.specs.Groups.{Group}
 use Rattle.book_files.specs.Entries.{PinEntry, NetEntry}
 use Rattle.book_files.specs.Ranges.{IsInRange, IsPinInRange, IsNetInRange, pin_count}
-use Rattle.book_files.specs.Nets.{NetHead, NetItem, header, total, pin_total, net, pin, total_in, pin_total_in, net_in, pin_in, nets_in, open_net, unless_short, head_of, is_direction, offset_pin, plain_pin, pin_of, pin_behind, entry_of_net, net_meaning, net_ending, totals, net_form}
-use Rattle.book_files.specs.NetsSoFar.{IsNetsSoFar, all_entries, at_end}
-use Rattle.book_files.specs.Form.{Reads, FirstFault, Mean}
-use Rattle.book_files.specs.Progress.{StandsFor}
+use Rattle.book_files.specs.Nets.{NetHead, NetItem, header, total, pin_total, net, pin, total_in, pin_total_in, net_in, pin_in, nets_in, open_net, is_direction, entry_of_net}
+use Rattle.book_files.specs.Forms.Nets.{unless_short, head_of, offset_pin, plain_pin, pin_of, pin_behind, net_meaning, net_ending, totals, net_form}
+use Rattle.book_files.specs.Forms.NetsSoFar.{IsNetsSoFar, all_entries, at_end}
+use Rattle.book_files.specs.Forms.Form.{Mean}
+use Rattle.book_files.proofs.FormTexts.{Reads, FirstFault}
+use Rattle.book_files.specs.Forms.Progress.{StandsFor}
 use Rattle.book_files.proofs.FewRecords.{length-content_of-le, length-mean, length-filter_map-le, at_ok, all-mean}
 use Rattle.book_files.proofs.GoodRecords.{bind_good, number_good}
 use Rattle.book_files.proofs.GroupSteps.{all-groups, groups-few}
@@ -99,10 +102,10 @@ in_range : (nets : List (Group NetHead PinEntry)) → AllByRecursion (λ net. Al
 in_range [] all = tt
 in_range (first ∷ nets) all = (all.0, in_range nets all.1)
 
-totals_are : (told pin_told : Option ℕ) (found nets : List NetEntry) (pins : ℕ) → totals told pin_told found pins ≡ Ok nets → nets ≡ found
-totals_are told pin_told found nets pins ends = at_ok (λ ns. ns ≡ found) (totals told pin_told found pins) nets ends (each told pin_told) where
-  each : (told pin_told : Option ℕ) → IfOk (totals told pin_told found pins) (λ ns. ns ≡ found)
-  each None pin_told = tt
+totals_are : (stated pin_stated : Option ℕ) (found nets : List NetEntry) (pins : ℕ) → totals stated pin_stated found pins ≡ Ok nets → nets ≡ found
+totals_are stated pin_stated found nets pins ends = at_ok (λ ns. ns ≡ found) (totals stated pin_stated found pins) nets ends (each stated pin_stated) where
+  each : (stated pin_stated : Option ℕ) → IfOk (totals stated pin_stated found pins) (λ ns. ns ≡ found)
+  each None pin_stated = tt
   each (Some n) None = tt
   each (Some n) (Some p) = if_ok (λ ns. ns ≡ found) (n == length found) (if p == pins then Ok found else Err (CountMismatch p pins)) (CountMismatch n (length found))
       (if_ok (λ ns. ns ≡ found) (p == pins) (Ok found) (CountMismatch p pins) refl)

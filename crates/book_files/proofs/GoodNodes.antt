@@ -6,10 +6,12 @@ use Rattle.std.proofs.lemmas.List.Elements.{recursion_from_All, filter_passes}
 use Rattle.book_text.specs.Lines.{NumberedLine, IsWord, is_comment_word, has_content, lines_of, numbered_from, content_of}
 use Rattle.book_files.specs.declared.fault.TextKind.{TextKind}
 use Rattle.book_files.specs.declared.fault.TextKind.TheVariants.{BadHeader, BadLine}
-use Rattle.book_files.specs.Words.{◌>>=◌, latest, is_header, is_keyed, is_keyword, count_of, size_of}
+use Rattle.book_files.specs.Words.{latest, is_header, is_keyed, is_keyword}
+use Rattle.book_files.specs.Forms.Words.{◌>>=◌, count_of, size_of}
 use Rattle.book_files.specs.Entries.{NodeEntry}
-use Rattle.book_files.specs.Nodes.{NodeItem, header, total, terminals, node, node_in, total_in, terminals_in, sized, node_of, node_meaning, node_ending, node_form}
-use Rattle.book_files.specs.Form.{Reads}
+use Rattle.book_files.specs.Nodes.{NodeItem, header, total, terminals, node, node_in, total_in, terminals_in}
+use Rattle.book_files.specs.Forms.Nodes.{sized, node_of, node_meaning, node_ending, node_form}
+use Rattle.book_files.proofs.FormTexts.{Reads}
 use Rattle.book_files.specs.Ranges.{IsName, IsNodeInRange}
 use Rattle.book_files.proofs.FewRecords.{records_few, records_good}
 use Rattle.book_files.proofs.GoodRecords.{IsSizeInRange, bind_good, if_good, size_good}

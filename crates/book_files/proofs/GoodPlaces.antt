@@ -6,10 +6,12 @@ use Rattle.book_text.specs.Lines.{NumberedLine, content_of}
 use Rattle.book_files.specs.declared.orient.Orient.{Orient}
 use Rattle.book_files.specs.declared.orient.Orient.TheVariants.{N}
 use Rattle.book_files.specs.declared.fault.TextKind.TheVariants.{BadHeader, BadLine}
-use Rattle.book_files.specs.Words.{is_header, is_colon_word, number_of}
+use Rattle.book_files.specs.Words.{is_header, is_colon_word}
+use Rattle.book_files.specs.Forms.Words.{number_of}
 use Rattle.book_files.specs.Entries.{PlaceEntry}
-use Rattle.book_files.specs.Places.{PlaceItem, header, placed, place_in, orient_of, is_fixed_mark, placed_at, turned, place_of, place_meaning, place_ending, place_form}
-use Rattle.book_files.specs.Form.{Reads}
+use Rattle.book_files.specs.Places.{PlaceItem, header, placed, place_in, orient_of, is_fixed_mark}
+use Rattle.book_files.specs.Forms.Places.{placed_at, turned, place_of, place_meaning, place_ending, place_form}
+use Rattle.book_files.proofs.FormTexts.{Reads}
 use Rattle.book_files.specs.Ranges.{IsInRange, IsPlaceInRange}
 use Rattle.book_files.proofs.FewRecords.{any_lines, records_few, records_good}
 use Rattle.book_files.proofs.GoodRecords.{bind_good, if_good, number_good}

@@ -2,12 +2,13 @@
 use Rattle.std.proofs.Common.{ℕ, ◌^◌, ◌≤◌, Bool, true, false, List, cond, nat_le, ℤ, pos, neg_ℤ, int_lt, ◌≤ℤ◌, Result, Ok, Err, IfOk, arith}
 use Rattle.std.proofs.lemmas.Bool.{cond_both, leb-true}
 use Rattle.std.proofs.lemmas.Int.{ints}
+use Rattle.book_text.specs.declared.decimal.TheConstants.{MOST_MICRO}
 use Rattle.book_text.specs.declared.number.NumberFault.TheVariants.{NotNumber, OutOfRange}
 use Rattle.book_text.specs.Decimal.{micro_size, is_number}
 use Rattle.std.specs.Str.Parse.{starts_with_minus}
 use Rattle.book_files.specs.declared.fault.TextKind.{TextKind}
 use Rattle.book_files.specs.declared.fault.TextKind.TheVariants.{BadNumber}
-use Rattle.book_files.specs.Words.{◌>>=◌, number_of_result, number_of, size_of, unless_negative}
+use Rattle.book_files.specs.Forms.Words.{◌>>=◌, number_of_result, number_of, size_of, unless_negative}
 use Rattle.book_files.specs.Ranges.{IsInRange}
 
 -- in range, and not negative
@@ -25,11 +26,11 @@ if_good P true r s good other = good
 if_good P false r s good other = other
 
 micro_in_range : (form minus : Bool) (size : ℕ)
-    → IfOk (number_of_result (cond form (cond (nat_le size (10 ^ 12)) (Ok (cond minus (neg_ℤ (pos size)) (pos size))) (Err OutOfRange)) (Err NotNumber))) IsInRange
+    → IfOk (number_of_result (cond form (cond (nat_le size MOST_MICRO) (Ok (cond minus (neg_ℤ (pos size)) (pos size))) (Err OutOfRange)) (Err NotNumber))) IsInRange
 micro_in_range false minus size = tt
-micro_in_range true minus size = cond_both (nat_le size (10 ^ 12)) (Ok (cond minus (neg_ℤ (pos size)) (pos size))) (Err OutOfRange) (λ r. IfOk (number_of_result r) IsInRange)
-    (λ fits. in_range minus size (leb-true size (10 ^ 12) fits)) (λ _. tt) where
-      in_range : (minus : Bool) (size : ℕ) → size ≤ 10 ^ 12 → IsInRange (cond minus (neg_ℤ (pos size)) (pos size))
+micro_in_range true minus size = cond_both (nat_le size MOST_MICRO) (Ok (cond minus (neg_ℤ (pos size)) (pos size))) (Err OutOfRange) (λ r. IfOk (number_of_result r) IsInRange)
+    (λ fits. in_range minus size (leb-true size MOST_MICRO fits)) (λ _. tt) where
+      in_range : (minus : Bool) (size : ℕ) → size ≤ MOST_MICRO → IsInRange (cond minus (neg_ℤ (pos size)) (pos size))
       in_range true size fits = record { low = omega (arith, ints); high = omega (arith, ints) }
       in_range false size fits = record { low = omega (arith, ints); high = omega (arith, ints) }
 

@@ -4,10 +4,12 @@ use Rattle.std.specs.Option.{IfSome}
 use Rattle.std.specs.List.{AllByRecursion, filter_map}
 use Rattle.book_text.specs.Lines.{NumberedLine, content_of}
 use Rattle.book_files.specs.declared.fault.TextKind.TheVariants.{BadHeader}
-use Rattle.book_files.specs.Words.{is_header, number_of}
+use Rattle.book_files.specs.Words.{is_header}
+use Rattle.book_files.specs.Forms.Words.{number_of}
 use Rattle.book_files.specs.Entries.{WeightEntry}
-use Rattle.book_files.specs.Weights.{WeightItem, header, weighed, weight_in, weight_of, weight_meaning, weight_ending, weight_form}
-use Rattle.book_files.specs.Form.{Reads}
+use Rattle.book_files.specs.Weights.{WeightItem, header, weighed, weight_in}
+use Rattle.book_files.specs.Forms.Weights.{weight_of, weight_meaning, weight_ending, weight_form}
+use Rattle.book_files.proofs.FormTexts.{Reads}
 use Rattle.book_files.specs.Ranges.{IsInRange, IsWeightInRange}
 use Rattle.book_files.proofs.FewRecords.{any_lines, records_few, records_good}
 use Rattle.book_files.proofs.GoodRecords.{bind_good, if_good, number_good}

@@ -4,7 +4,7 @@ use Rattle.std.specs.List.{filter_map, cons_option}
 use Rattle.std.proofs.lemmas.List.{append-nil, map-append}
 use Rattle.std.proofs.lemmas.List.Elements.{filter_map-append}
 use Rattle.book_files.specs.Words.{last_of, latest}
-use Rattle.book_files.specs.SoFar.{has_items}
+use Rattle.book_files.specs.Forms.SoFar.{has_items}
 
 pub has_items-push : {I : Type 0} (items : List I) (item : I) → has_items (items ++ item ∷ []) ≡ true
 has_items-push [] item = refl

@@ -1,3 +1,4 @@
+pub mod FormTexts
 pub mod FewLines
 pub mod Readings
 pub mod Bridge

@@ -12,8 +12,9 @@ use Rattle.std.proofs.lemmas.Bool.{and_parts, and_from, cond-true, cond-false, b
 use Rattle.std.proofs.lemmas.Bool.Decides.{same_from_decides}
 use Rattle.std.proofs.lemmas.Slice.Eq.{bytes_eq-Decides}
 use Rattle.book_files.specs.declared.fault.TextKind.TheVariants.{BadLine}
-use Rattle.book_files.specs.Words.{◌>>=◌}
-use Rattle.book_files.specs.Aux.{is_file_name, has_suffix, named, at_most_one, only, aux_of}
+use Rattle.book_files.specs.Forms.Words.{◌>>=◌}
+use Rattle.book_files.specs.Aux.{is_file_name, has_suffix, named}
+use Rattle.book_files.specs.Forms.Aux.{at_most_one, only, aux_of}
 
 -- whether the end of a name is the suffix, in any ASCII case
 pub has_suffix_is : (suffix name : List ℕ) (front : ℕ) (r : Bool) → map to_ascii_lowercase suffix ≡ suffix → front ≡ length name - length suffix

@@ -7,14 +7,16 @@ use Rattle.std.proofs.lemmas.List.{length-map}
 use Rattle.book_text.specs.Lines.{NumberedLine}
 use Rattle.book_files.specs.declared.fault.TextKind.{TextKind}
 use Rattle.book_files.specs.declared.fault.TextKind.TheVariants.{BadHeader, BadLine, BadNumber, CountMismatch}
-use Rattle.book_files.specs.Words.{◌>>=◌, latest, is_header, is_keyed, is_colon_word, count_of, whole_of, number_of}
+use Rattle.book_files.specs.Words.{latest, is_header, is_keyed, is_colon_word}
+use Rattle.book_files.specs.Forms.Words.{◌>>=◌, count_of, whole_of, number_of}
 use Rattle.book_files.specs.Groups.{Group}
 use Rattle.book_files.specs.Entries.{PinEntry, NetEntry}
 use Rattle.book_files.specs.Shapes.{word_at, IsWhole, IsNumber, HasWhole, IsOnceShape}
-use Rattle.book_files.specs.Nets.{NetHead, NetItem, header, total, pin_total, net, pin, total_in, pin_total_in, nets_in, open_net, unless_short, head_of, is_direction, offset_pin, plain_pin, pin_of, pin_behind, entry_of_net, net_meaning, net_ending, totals, net_form}
+use Rattle.book_files.specs.Nets.{NetHead, NetItem, header, total, pin_total, net, pin, total_in, pin_total_in, nets_in, open_net, is_direction, entry_of_net}
+use Rattle.book_files.specs.Forms.Nets.{unless_short, head_of, offset_pin, plain_pin, pin_of, pin_behind, net_meaning, net_ending, totals, net_form}
 use Rattle.book_files.specs.NetRules.{is_net_start, is_keyed_line, IsNetShape, IsPinShape, IsPinOffset, IsShort, IsNotShort, IsPinLine, IsNetsItem, HasPinLine, HasNetsShape, HasNetsNumbers, IsShortAtLine, IsPinTooMany, IsNotShortAtLine, IsNetsLineFault, pins_found, IsNetsFile, IsNetsEndFault, nets_grammar}
 use Rattle.book_files.proofs.Bridge.{Decides}
-use Rattle.book_files.proofs.ShapeSteps.{Judges, tells_whole, tells_number, judges_bind, judges_map, keyed_apart, count_judged, count_back, header_item, header_fault}
+use Rattle.book_files.proofs.ShapeSteps.{Judges, spells_whole, spells_number, judges_bind, judges_map, keyed_apart, count_judged, count_back, header_item, header_fault}
 
 -- the last net's pins
 
@@ -23,44 +25,44 @@ ShortIs items (Ok done) = IsNotShort items
 ShortIs items (Err BadHeader) = ⊥
 ShortIs items (Err BadLine) = ⊥
 ShortIs items (Err BadNumber) = ⊥
-ShortIs items (Err (CountMismatch told found)) = IsShort items told found
+ShortIs items (Err (CountMismatch stated found)) = IsShort items stated found
 
 same_last : (items : List NetItem) (a b : Group NetHead PinEntry) → open_net items ≡ Some a → open_net items ≡ Some b → a ≡ b
 same_last items a b is_a is_b = let e = sym is_a ∙ is_b in cc
 
-short_told : (items : List NetItem) → ShortIs items (unless_short (open_net items))
-short_told items = at (open_net items) refl where
+short_stated : (items : List NetItem) → ShortIs items (unless_short (open_net items))
+short_stated items = at (open_net items) refl where
   at : (o : Option (Group NetHead PinEntry)) → open_net items ≡ o → ShortIs items (unless_short o)
-  at None is = λ told found short. let e = short.begun in cc
+  at None is = λ stated found short. let e = short.begun in cc
   at (Some last) is = tested (nat_lt (length last.parts) last.head.degree) refl where
     tested : (b : Bool) → nat_lt (length last.parts) last.head.degree ≡ b → ShortIs items (if b then Err (CountMismatch last.head.degree (length last.parts)) else Ok (tt {0}))
     tested true less = record { last = last; begun = is; degree = refl; pins = refl; fewer = ltb-true (length last.parts) last.head.degree less }
-    tested false not_less = λ told found short. let same = same_last items short.last last short.begun is in
+    tested false not_less = λ stated found short. let same = same_last items short.last last short.begun is in
         let degree = ap (λ (g : Group NetHead PinEntry). g.head.degree) same in let parts = ap (λ (g : Group NetHead PinEntry). length g.parts) same in
         omega (arith, ltb-false (length last.parts) last.head.degree not_less, short.degree, short.pins, short.fewer)
 
 whole_back : (items : List NetItem) → IsNotShort items → unless_short (open_net items) ≡ Ok (tt {0})
-whole_back items whole = at (unless_short (open_net items)) (short_told items) where
+whole_back items whole = at (unless_short (open_net items)) (short_stated items) where
   at : (r : Result (Unit {0}) TextKind) → ShortIs items r → r ≡ Ok (tt {0})
   at (Ok done) is = refl
   at (Err BadHeader) is = absurd is
   at (Err BadLine) is = absurd is
   at (Err BadNumber) is = absurd is
-  at (Err (CountMismatch told found)) is = absurd (whole told found is)
+  at (Err (CountMismatch stated found)) is = absurd (whole stated found is)
 
-short_one : (items : List NetItem) (told found more other : ℕ) → IsShort items told found → IsShort items more other → ◌≡◌ {A = TextKind} (CountMismatch told found) (CountMismatch more other)
-short_one items told found more other a b = let same = same_last items a.last b.last a.begun b.begun in
-    let degree : told ≡ more = a.degree ∙ (ap (λ (g : Group NetHead PinEntry). g.head.degree) same ∙ sym b.degree) in
+short_one : (items : List NetItem) (stated found more other : ℕ) → IsShort items stated found → IsShort items more other → ◌≡◌ {A = TextKind} (CountMismatch stated found) (CountMismatch more other)
+short_one items stated found more other a b = let same = same_last items a.last b.last a.begun b.begun in
+    let degree : stated ≡ more = a.degree ∙ (ap (λ (g : Group NetHead PinEntry). g.head.degree) same ∙ sym b.degree) in
     let parts : found ≡ other = a.pins ∙ (ap (λ (g : Group NetHead PinEntry). length g.parts) same ∙ sym b.pins) in cc
 
-short_back : (items : List NetItem) (told found : ℕ) → IsShort items told found → unless_short (open_net items) ≡ Err (CountMismatch told found)
-short_back items told found short = at (unless_short (open_net items)) (short_told items) where
-  at : (r : Result (Unit {0}) TextKind) → ShortIs items r → r ≡ Err (CountMismatch told found)
-  at (Ok done) is = absurd (is told found short)
+short_back : (items : List NetItem) (stated found : ℕ) → IsShort items stated found → unless_short (open_net items) ≡ Err (CountMismatch stated found)
+short_back items stated found short = at (unless_short (open_net items)) (short_stated items) where
+  at : (r : Result (Unit {0}) TextKind) → ShortIs items r → r ≡ Err (CountMismatch stated found)
+  at (Ok done) is = absurd (is stated found short)
   at (Err BadHeader) is = absurd is
   at (Err BadLine) is = absurd is
   at (Err BadNumber) is = absurd is
-  at (Err (CountMismatch more other)) is = ap Err (short_one items more other told found is short)
+  at (Err (CountMismatch more other)) is = ap Err (short_one items more other stated found is short)
 
 -- keywords
 
@@ -134,9 +136,9 @@ pin_judged number (node ∷ direction ∷ colon ∷ x ∷ y ∷ []) = at (is_dir
   at : (a b : Bool) → is_direction direction ≡ a → is_colon_word colon ≡ b
       → PinJudged number (node ∷ direction ∷ colon ∷ x ∷ y ∷ []) (if a then (if b then offset_pin number node x y else Err BadLine) else Err BadLine)
   at true true directed colons = let words = node ∷ direction ∷ colon ∷ x ∷ y ∷ [] in
-      judges_bind (IsPinShape words) (HasOffset words) (IsPinEntry number words) (IsNumber x) (number_of x) _ (directed, colons) (tells_number x) (λ has. (has.0, has.2.0)) (λ dx is_dx.
+      judges_bind (IsPinShape words) (HasOffset words) (IsPinEntry number words) (IsNumber x) (number_of x) _ (directed, colons) (spells_number x) (λ has. (has.0, has.2.0)) (λ dx is_dx.
       judges_bind (IsPinShape words) (HasOffset words) (IsPinEntry number words) (IsNumber y) (number_of y)
-      (λ dy. Ok (record { line = number; node = node; dx = dx; dy = dy })) (directed, colons) (tells_number y)
+      (λ dy. Ok (record { line = number; node = node; dx = dx; dy = dy })) (directed, colons) (spells_number y)
       (λ has. (has.1, has.2.1)) (λ dy is_dy. ((directed, colons), (dx, dy, (is_dx, is_dy)), record { line = refl; node = refl; offset = (is_dx, is_dy) })))
   at true false directed colons = λ shape. let e = shape.1 in cc
   at false b directed colons = λ shape. let e = shape.0 in cc
@@ -145,12 +147,12 @@ pin_judged number (node ∷ direction ∷ colon ∷ x ∷ y ∷ more ∷ rest) =
 -- What is said of a line behind the header: too few pins of the net before, then another shape, then bad numbers, then a pin
 -- too many, then an item.
 abbrev Judged : List NetItem → NumberedLine → Result NetItem TextKind → Type 0
-Judged before line (Ok told) = IsNotShortAtLine before line.words × HasNetsShape before line.words × HasNetsNumbers line.words
-    × ((told found : ℕ) → IsPinTooMany before line.words told found → ⊥) × IsNetsItem before line told
+Judged before line (Ok stated) = IsNotShortAtLine before line.words × HasNetsShape before line.words × HasNetsNumbers line.words
+    × ((stated found : ℕ) → IsPinTooMany before line.words stated found → ⊥) × IsNetsItem before line stated
 Judged before line (Err BadHeader) = ⊥
 Judged before line (Err BadLine) = IsNotShortAtLine before line.words × (HasNetsShape before line.words → ⊥)
 Judged before line (Err BadNumber) = IsNotShortAtLine before line.words × HasNetsShape before line.words × (HasNetsNumbers line.words → ⊥)
-Judged before line (Err (CountMismatch told found)) = IsShortAtLine before line.words told found ⊎ IsPinTooMany before line.words told found
+Judged before line (Err (CountMismatch stated found)) = IsShortAtLine before line.words stated found ⊎ IsPinTooMany before line.words stated found
 
 module _ (first : NetItem) (rest : List NetItem) (line : NumberedLine) where
   abbrev ByShape : Result NetItem TextKind → Type 0
@@ -161,11 +163,11 @@ module _ (first : NetItem) (rest : List NetItem) (line : NumberedLine) where
 
   -- a line that can't be a pin too many, and isn't too early
   by_shape : (r : Result NetItem TextKind) → IsNotShortAtLine (first ∷ rest) line.words → IsTrue (is_keyed_line line.words) → ByShape r → Judged (first ∷ rest) line r
-  by_shape (Ok told) whole keyed j = (whole, j.0, j.1, (λ told found many. let e = many.shape.other in cc), j.2)
+  by_shape (Ok stated) whole keyed j = (whole, j.0, j.1, (λ stated found many. let e = many.shape.other in cc), j.2)
   by_shape (Err BadHeader) whole keyed j = j
   by_shape (Err BadLine) whole keyed j = (whole, j)
   by_shape (Err BadNumber) whole keyed j = (whole, j.0, j.1)
-  by_shape (Err (CountMismatch told found)) whole keyed j = absurd j
+  by_shape (Err (CountMismatch stated found)) whole keyed j = absurd j
 
   -- what a keyed line has, by its keyword
   numbers_of : IsTrue (is_keyed_line line.words) → HasWhole (word_at line.words 2) → HasNetsNumbers line.words
@@ -199,7 +201,7 @@ module _ (first : NetItem) (rest : List NetItem) (line : NumberedLine) where
   pin_shape other (inr (inr (inr shape))) = shape
 
   not_start : IsFalse (is_net_start line.words) → IsNotShortAtLine (first ∷ rest) line.words
-  not_start other told found short = let e = short.0 in cc
+  not_start other stated found short = let e = short.0 in cc
 
   total_judged : IsTrue (is_keyed (codes "numnets") line.words) → Judged (first ∷ rest) line (count_of (is_some (latest total_in (first ∷ rest))) line.words >>= λ n. Ok (total n))
   total_judged keyed = let is_keyed_one = keyed_line-nets line.words keyed in
@@ -244,26 +246,26 @@ module _ (first : NetItem) (rest : List NetItem) (number : ℕ) where
   head_judged (key ∷ colon ∷ degree ∷ []) keyed whole = let words = key ∷ colon ∷ degree ∷ [] in
       let shape : HasNetsShape (first ∷ rest) words = inr (inr (inl (None, (keyed, refl)))) in
       judges_bind (HasNetsShape (first ∷ rest) words) (HasNetsNumbers words) (IsNetsItem (first ∷ rest) (line_of words))
-      (IsWhole degree) (whole_of degree) (λ k. Ok (net (record { degree = k; name = None }))) shape (tells_whole degree) (λ numbers. numbers.count (keyed_line-start words keyed))
+      (IsWhole degree) (whole_of degree) (λ k. Ok (net (record { degree = k; name = None }))) shape (spells_whole degree) (λ numbers. numbers.count (keyed_line-start words keyed))
       (λ k is. (shape, numbers_of first rest (line_of words) (keyed_line-start words keyed) (k, is), (λ e. cc, record { shape = (keyed, refl); degree = is; whole = whole })))
   head_judged (key ∷ colon ∷ degree ∷ name ∷ []) keyed whole = let words = key ∷ colon ∷ degree ∷ name ∷ [] in
       let shape : HasNetsShape (first ∷ rest) words = inr (inr (inl (Some name, (keyed, refl, refl)))) in
       judges_bind (HasNetsShape (first ∷ rest) words) (HasNetsNumbers words) (IsNetsItem (first ∷ rest) (line_of words))
-      (IsWhole degree) (whole_of degree) (λ k. Ok (net (record { degree = k; name = Some name }))) shape (tells_whole degree) (λ numbers. numbers.count (keyed_line-start words keyed))
+      (IsWhole degree) (whole_of degree) (λ k. Ok (net (record { degree = k; name = Some name }))) shape (spells_whole degree) (λ numbers. numbers.count (keyed_line-start words keyed))
       (λ k is. (shape, numbers_of first rest (line_of words) (keyed_line-start words keyed) (k, is), (λ e. cc, record { shape = (keyed, refl, refl); degree = is; whole = whole })))
   head_judged (key ∷ colon ∷ degree ∷ name ∷ more ∷ others) keyed whole = let words = key ∷ colon ∷ degree ∷ name ∷ more ∷ others in
       λ shape. other_length words (net_shape first rest (line_of words) keyed shape) (λ e. omega arith) (λ e. omega arith)
 
 module _ (first : NetItem) (rest : List NetItem) (line : NumberedLine) where
   start_judged : IsTrue (is_net_start line.words) → Judged (first ∷ rest) line (unless_short (open_net (first ∷ rest)) >>= λ done. head_of line.words)
-  start_judged keyed = at (unless_short (open_net (first ∷ rest))) (short_told (first ∷ rest)) where
+  start_judged keyed = at (unless_short (open_net (first ∷ rest))) (short_stated (first ∷ rest)) where
     at : (r : Result (Unit {0}) TextKind) → ShortIs (first ∷ rest) r → Judged (first ∷ rest) line (r >>= λ done. head_of line.words)
-    at (Ok done) whole = by_shape first rest line (head_of line.words) (λ told found short. whole told found short.1) (keyed_line-start line.words keyed)
+    at (Ok done) whole = by_shape first rest line (head_of line.words) (λ stated found short. whole stated found short.1) (keyed_line-start line.words keyed)
         (head_judged first rest line.number line.words keyed whole)
     at (Err BadHeader) short = absurd short
     at (Err BadLine) short = absurd short
     at (Err BadNumber) short = absurd short
-    at (Err (CountMismatch told found)) short = inl (keyed, short)
+    at (Err (CountMismatch stated found)) short = inl (keyed, short)
 
   pin_line_judged : IsOther line.words → Judged (first ∷ rest) line (pin_behind (open_net (first ∷ rest)) line)
   pin_line_judged other = at (open_net (first ∷ rest)) refl where
@@ -283,7 +285,7 @@ module _ (first : NetItem) (rest : List NetItem) (line : NumberedLine) where
       early,
       inr (inr (inr (last, line_in last is j.0))),
       numbers_in j.1,
-      (λ told found many. let same = same_last (first ∷ rest) many.last last many.shape.begun is in
+      (λ stated found many. let same = same_last (first ∷ rest) many.last last many.shape.begun is in
           let degree = ap (λ (g : Group NetHead PinEntry). g.head.degree) same in let parts = ap (λ (g : Group NetHead PinEntry). length g.parts) same in
           omega (arith, room, many.degree, many.full)),
       (not_first first rest line, record { last = last; shape = line_in last is j.0; number = j.2.line; node = j.2.node; offset = j.2.offset; room = room }),
@@ -293,7 +295,7 @@ module _ (first : NetItem) (rest : List NetItem) (line : NumberedLine) where
     in_net last is b test (Err BadHeader) j = absurd j
     in_net last is b test (Err BadLine) j = (early, λ shape. j (pin_shape first rest line other shape).1.shape)
     in_net last is b test (Err BadNumber) j = (early, inr (inr (inr (last, line_in last is j.0))), λ numbers. j.1 (numbers.offset (other_line line.words other)))
-    in_net last is b test (Err (CountMismatch told found)) j = absurd j
+    in_net last is b test (Err (CountMismatch stated found)) j = absurd j
 
     at : (o : Option (Group NetHead PinEntry)) → open_net (first ∷ rest) ≡ o → Judged (first ∷ rest) line (pin_behind o line)
     at None is = (early, λ shape. let pin_line = pin_shape first rest line other shape in let e = pin_line.1.begun in cc)
@@ -304,9 +306,9 @@ module _ (first : NetItem) (rest : List NetItem) (line : NumberedLine) where
       cond_both (is_keyed (codes "numpins") line.words) _ _ (Judged (first ∷ rest) line) (pin_total_judged first rest line) (λ pins.
       cond_both (is_net_start line.words) _ _ (Judged (first ∷ rest) line) start_judged (λ start. pin_line_judged (record { nets = nets; pins = pins; start = start }))))
 
-item_of : (before : List NetItem) (line : NumberedLine) (told : NetItem) → net_meaning before line ≡ Ok told → IsNetsItem before line told
-item_of [] line told means = let is = header_item (codes "nets") header line told means in subst (IsNetsItem [] line) is.1 (refl, is.0)
-item_of (first ∷ rest) line told means = (subst (Judged (first ∷ rest) line) means (line_judged first rest line)).4
+item_of : (before : List NetItem) (line : NumberedLine) (stated : NetItem) → net_meaning before line ≡ Ok stated → IsNetsItem before line stated
+item_of [] line stated means = let is = header_item (codes "nets") header line stated means in subst (IsNetsItem [] line) is.1 (refl, is.0)
+item_of (first ∷ rest) line stated means = (subst (Judged (first ∷ rest) line) means (line_judged first rest line)).4
 
 named_of : (before : List NetItem) (line : NumberedLine) (kind : TextKind) → net_meaning before line ≡ Err kind → IsNetsLineFault before line kind
 named_of [] line kind means = let is = header_fault (codes "nets") header line kind means in subst (IsNetsLineFault [] line) is.1 is.0
@@ -315,51 +317,51 @@ named_of (first ∷ rest) line kind means = at kind (subst (Judged (first ∷ re
   at BadHeader j = j
   at BadLine j = j
   at BadNumber j = j
-  at (CountMismatch told found) j = j
+  at (CountMismatch stated found) j = j
 
 -- one line, one fault
 
-short_or_many : (before : List NetItem) (words : List (List ℕ)) (told found more other : ℕ) → IsShortAtLine before words told found → IsPinTooMany before words more other → ⊥
-short_or_many before words told found more other short many = let keyed = keyed_line-start words short.0 in let e = many.shape.other in cc
+short_or_many : (before : List NetItem) (words : List (List ℕ)) (stated found more other : ℕ) → IsShortAtLine before words stated found → IsPinTooMany before words more other → ⊥
+short_or_many before words stated found more other short many = let keyed = keyed_line-start words short.0 in let e = many.shape.other in cc
 
-many_one : (before : List NetItem) (words : List (List ℕ)) (told found more other : ℕ) → IsPinTooMany before words told found → IsPinTooMany before words more other
-    → ◌≡◌ {A = TextKind} (CountMismatch told found) (CountMismatch more other)
-many_one before words told found more other a b = let same = same_last before a.last b.last a.shape.begun b.shape.begun in
-    let degree : told ≡ more = a.degree ∙ (ap (λ (g : Group NetHead PinEntry). g.head.degree) same ∙ sym b.degree) in
+many_one : (before : List NetItem) (words : List (List ℕ)) (stated found more other : ℕ) → IsPinTooMany before words stated found → IsPinTooMany before words more other
+    → ◌≡◌ {A = TextKind} (CountMismatch stated found) (CountMismatch more other)
+many_one before words stated found more other a b = let same = same_last before a.last b.last a.shape.begun b.shape.begun in
+    let degree : stated ≡ more = a.degree ∙ (ap (λ (g : Group NetHead PinEntry). g.head.degree) same ∙ sym b.degree) in
     let one : found ≡ other = a.more ∙ (ap (λ n. n + 1) degree ∙ sym b.more) in cc
 
 named_back : (before : List NetItem) (line : NumberedLine) (kind : TextKind) → IsNetsLineFault before line kind → net_meaning before line ≡ Err kind
 named_back [] line BadHeader named = cond-false (is_header (codes "nets") line.words) (Ok header) (Err BadHeader) named
 named_back [] line BadLine named = absurd named
 named_back [] line BadNumber named = absurd named
-named_back [] line (CountMismatch told found) named = absurd named
+named_back [] line (CountMismatch stated found) named = absurd named
 named_back (first ∷ rest) line kind named = at kind (net_meaning (first ∷ rest) line) named (line_judged first rest line) where
-  has_pin_shape : (told found : ℕ) → IsPinTooMany (first ∷ rest) line.words told found → HasNetsShape (first ∷ rest) line.words
-  has_pin_shape told found many = inr (inr (inr (many.last, many.shape)))
+  has_pin_shape : (stated found : ℕ) → IsPinTooMany (first ∷ rest) line.words stated found → HasNetsShape (first ∷ rest) line.words
+  has_pin_shape stated found many = inr (inr (inr (many.last, many.shape)))
 
   at : (kind : TextKind) (r : Result NetItem TextKind) → IsNetsLineFault (first ∷ rest) line kind → Judged (first ∷ rest) line r → r ≡ Err kind
   at BadHeader r named j = absurd named
   at kind (Err BadHeader) named j = absurd j
-  at BadLine (Ok told) named j = absurd (named.1 j.1)
+  at BadLine (Ok stated) named j = absurd (named.1 j.1)
   at BadLine (Err BadLine) named j = refl
   at BadLine (Err BadNumber) named j = absurd (named.1 j.1)
-  at BadLine (Err (CountMismatch told found)) named (inl short) = absurd (named.0 told found short)
-  at BadLine (Err (CountMismatch told found)) named (inr many) = absurd (named.1 (has_pin_shape told found many))
-  at BadNumber (Ok told) named j = absurd (named.2 j.2)
+  at BadLine (Err (CountMismatch stated found)) named (inl short) = absurd (named.0 stated found short)
+  at BadLine (Err (CountMismatch stated found)) named (inr many) = absurd (named.1 (has_pin_shape stated found many))
+  at BadNumber (Ok stated) named j = absurd (named.2 j.2)
   at BadNumber (Err BadLine) named j = absurd (j.1 named.1)
   at BadNumber (Err BadNumber) named j = refl
-  at BadNumber (Err (CountMismatch told found)) named (inl short) = absurd (named.0 told found short)
-  at BadNumber (Err (CountMismatch told found)) named (inr many) = absurd (named.2 many.numbers)
-  at (CountMismatch told found) (Ok item) (inl short) j = absurd (j.0 told found short)
-  at (CountMismatch told found) (Ok item) (inr many) j = absurd (j.3 told found many)
-  at (CountMismatch told found) (Err BadLine) (inl short) j = absurd (j.0 told found short)
-  at (CountMismatch told found) (Err BadLine) (inr many) j = absurd (j.1 (has_pin_shape told found many))
-  at (CountMismatch told found) (Err BadNumber) (inl short) j = absurd (j.0 told found short)
-  at (CountMismatch told found) (Err BadNumber) (inr many) j = absurd (j.2 many.numbers)
-  at (CountMismatch told found) (Err (CountMismatch more other)) (inl short) (inl again) = ap Err (short_one (first ∷ rest) more other told found again.1 short.1)
-  at (CountMismatch told found) (Err (CountMismatch more other)) (inl short) (inr many) = absurd (short_or_many (first ∷ rest) line.words told found more other short many)
-  at (CountMismatch told found) (Err (CountMismatch more other)) (inr many) (inl short) = absurd (short_or_many (first ∷ rest) line.words more other told found short many)
-  at (CountMismatch told found) (Err (CountMismatch more other)) (inr many) (inr again) = ap Err (many_one (first ∷ rest) line.words more other told found again many)
+  at BadNumber (Err (CountMismatch stated found)) named (inl short) = absurd (named.0 stated found short)
+  at BadNumber (Err (CountMismatch stated found)) named (inr many) = absurd (named.2 many.numbers)
+  at (CountMismatch stated found) (Ok item) (inl short) j = absurd (j.0 stated found short)
+  at (CountMismatch stated found) (Ok item) (inr many) j = absurd (j.3 stated found many)
+  at (CountMismatch stated found) (Err BadLine) (inl short) j = absurd (j.0 stated found short)
+  at (CountMismatch stated found) (Err BadLine) (inr many) j = absurd (j.1 (has_pin_shape stated found many))
+  at (CountMismatch stated found) (Err BadNumber) (inl short) j = absurd (j.0 stated found short)
+  at (CountMismatch stated found) (Err BadNumber) (inr many) j = absurd (j.2 many.numbers)
+  at (CountMismatch stated found) (Err (CountMismatch more other)) (inl short) (inl again) = ap Err (short_one (first ∷ rest) more other stated found again.1 short.1)
+  at (CountMismatch stated found) (Err (CountMismatch more other)) (inl short) (inr many) = absurd (short_or_many (first ∷ rest) line.words stated found more other short many)
+  at (CountMismatch stated found) (Err (CountMismatch more other)) (inr many) (inl short) = absurd (short_or_many (first ∷ rest) line.words more other stated found short many)
+  at (CountMismatch stated found) (Err (CountMismatch more other)) (inr many) (inr again) = ap Err (many_one (first ∷ rest) line.words more other stated found again many)
 
 -- an item of the rules is the form's
 
@@ -367,10 +369,10 @@ head_back : (words : List (List ℕ)) (degree : ℕ) (name : Option (List ℕ)) 
 head_back [] degree name shape whole = absurd (other_length [] (name, shape) (λ e. omega arith) (λ e. omega arith))
 head_back (key ∷ []) degree name shape whole = absurd (other_length (key ∷ []) (name, shape) (λ e. omega arith) (λ e. omega arith))
 head_back (key ∷ colon ∷ []) degree name shape whole = absurd (other_length (key ∷ colon ∷ []) (name, shape) (λ e. omega arith) (λ e. omega arith))
-head_back (key ∷ colon ∷ word ∷ []) degree None shape whole = rw ((tells_whole word).back degree whole) refl
+head_back (key ∷ colon ∷ word ∷ []) degree None shape whole = rw ((spells_whole word).back degree whole) refl
 head_back (key ∷ colon ∷ word ∷ []) degree (Some name) shape whole = let four = shape.1 in absurd (omega arith)
 head_back (key ∷ colon ∷ word ∷ other ∷ []) degree None shape whole = let three = shape.1 in absurd (omega arith)
-head_back (key ∷ colon ∷ word ∷ other ∷ []) degree (Some name) shape whole = rw ((tells_whole word).back degree whole) (ap (λ n. Ok (net (record { degree = degree; name = Some n }))) (sym shape.2))
+head_back (key ∷ colon ∷ word ∷ other ∷ []) degree (Some name) shape whole = rw ((spells_whole word).back degree whole) (ap (λ n. Ok (net (record { degree = degree; name = Some n }))) (sym shape.2))
 head_back (key ∷ colon ∷ word ∷ other ∷ more ∷ rest) degree name shape whole = absurd (other_length (key ∷ colon ∷ word ∷ other ∷ more ∷ rest) (name, shape) (λ e. omega arith) (λ e. omega arith))
 
 same_pin : (a b : PinEntry) → a.line ≡ b.line → a.node ≡ b.node → a.dx ≡ b.dx → a.dy ≡ b.dy → a ≡ b
@@ -387,11 +389,11 @@ pin_back number (node ∷ direction ∷ []) entry shape is = cond-true (is_direc
 pin_back number (node ∷ direction ∷ colon ∷ []) entry shape is = absurd shape
 pin_back number (node ∷ direction ∷ colon ∷ x ∷ []) entry shape is = absurd shape
 pin_back number (node ∷ direction ∷ colon ∷ x ∷ y ∷ []) entry shape is = cond-true (is_direction direction) _ _ shape.0 ∙ (cond-true (is_colon_word colon) _ _ shape.1
-    ∙ rw ((tells_number x).back entry.dx is.offset.0, (tells_number y).back entry.dy is.offset.1)
+    ∙ rw ((spells_number x).back entry.dx is.offset.0, (spells_number y).back entry.dy is.offset.1)
     (ap Ok (sym (same_pin entry (record { line = number; node = node; dx = entry.dx; dy = entry.dy }) is.line is.node refl refl))))
 pin_back number (node ∷ direction ∷ colon ∷ x ∷ y ∷ more ∷ rest) entry shape is = absurd shape
 
-item_back : (before : List NetItem) (line : NumberedLine) (told : NetItem) → IsNetsItem before line told → net_meaning before line ≡ Ok told
+item_back : (before : List NetItem) (line : NumberedLine) (stated : NetItem) → IsNetsItem before line stated → net_meaning before line ≡ Ok stated
 item_back [] line header is = cond-true (is_header (codes "nets") line.words) (Ok header) (Err BadHeader) is.1
 item_back [] line (total n) is = absurd (is.0 refl)
 item_back [] line (pin_total p) is = absurd (is.0 refl)
@@ -426,13 +428,13 @@ module _ (first : NetItem) (rest : List NetItem) where
   nets_of = map entry_of_net (nets_in items_of)
 
   abbrev totals_of : Option ℕ → Option ℕ → Result (List NetEntry) TextKind
-  totals_of told pin_told = totals told pin_told nets_of (pins_found items_of)
+  totals_of stated pin_stated = totals stated pin_stated nets_of (pins_found items_of)
 
   length_of : length nets_of ≡ length (nets_in items_of)
   length_of = length-map (nets_in items_of) entry_of_net
 
-  totals_judged : IsNotShort items_of → (told pin_told : Option ℕ) → latest total_in items_of ≡ told → latest pin_total_in items_of ≡ pin_told → EndIs items_of (totals_of told pin_told)
-  totals_judged whole None pin_told is pins_are = (λ e. cc, whole, inl is)
+  totals_judged : IsNotShort items_of → (stated pin_stated : Option ℕ) → latest total_in items_of ≡ stated → latest pin_total_in items_of ≡ pin_stated → EndIs items_of (totals_of stated pin_stated)
+  totals_judged whole None pin_stated is pins_are = (λ e. cc, whole, inl is)
   totals_judged whole (Some n) None is pins_are = (λ e. cc, whole, inr pins_are)
   totals_judged whole (Some n) (Some p) is pins_are = at (n == length nets_of) (p == pins_found items_of) refl refl where
     at : (a b : Bool) → (n == length nets_of) ≡ a → (p == pins_found items_of) ≡ b
@@ -442,25 +444,25 @@ module _ (first : NetItem) (rest : List NetItem) where
     at false b nets pins = inr (inl (record { whole = whole; count = is; pins = λ none. let e = sym pins_are ∙ none in cc; nets = length_of; differ = eqb-false n (length nets_of) nets }))
 
   end_judged : EndIs items_of (net_ending items_of)
-  end_judged = at (unless_short (open_net items_of)) (short_told items_of) where
+  end_judged = at (unless_short (open_net items_of)) (short_stated items_of) where
     at : (r : Result (Unit {0}) TextKind) → ShortIs items_of r → EndIs items_of (r >>= λ done. totals_of (latest total_in items_of) (latest pin_total_in items_of))
     at (Ok done) whole = totals_judged whole (latest total_in items_of) (latest pin_total_in items_of) refl refl
     at (Err BadHeader) short = absurd short
     at (Err BadLine) short = absurd short
     at (Err BadNumber) short = absurd short
-    at (Err (CountMismatch told found)) short = inl short
+    at (Err (CountMismatch stated found)) short = inl short
 
   -- where the last net has its pins, the two totals decide
-  end_totals : IsNotShort items_of → (told pin_told : Option ℕ) → latest total_in items_of ≡ told → latest pin_total_in items_of ≡ pin_told → net_ending items_of ≡ totals_of told pin_told
-  end_totals whole told pin_told is pins_are = ap (λ r. r >>= λ done. totals_of (latest total_in items_of) (latest pin_total_in items_of)) (whole_back items_of whole) ∙ ap₂ totals_of is pins_are
+  end_totals : IsNotShort items_of → (stated pin_stated : Option ℕ) → latest total_in items_of ≡ stated → latest pin_total_in items_of ≡ pin_stated → net_ending items_of ≡ totals_of stated pin_stated
+  end_totals whole stated pin_stated is pins_are = ap (λ r. r >>= λ done. totals_of (latest total_in items_of) (latest pin_total_in items_of)) (whole_back items_of whole) ∙ ap₂ totals_of is pins_are
 
-  missing : (told pin_told : Option ℕ) → (told ≡ None) ⊎ (pin_told ≡ None) → totals_of told pin_told ≡ Err BadLine
-  missing None pin_told none = refl
+  missing : (stated pin_stated : Option ℕ) → (stated ≡ None) ⊎ (pin_stated ≡ None) → totals_of stated pin_stated ≡ Err BadLine
+  missing None pin_stated none = refl
   missing (Some n) None none = refl
   missing (Some n) (Some p) (inl none) = cc
   missing (Some n) (Some p) (inr none) = cc
 
-  other_nets : (n found : ℕ) (pin_told : Option ℕ) → pin_told ≢ None → found ≡ length (nets_in items_of) → n ≢ found → totals_of (Some n) pin_told ≡ Err (CountMismatch n found)
+  other_nets : (n found : ℕ) (pin_stated : Option ℕ) → pin_stated ≢ None → found ≡ length (nets_in items_of) → n ≢ found → totals_of (Some n) pin_stated ≡ Err (CountMismatch n found)
   other_nets n found None some nets differ = absurd (some refl)
   other_nets n found (Some p) some nets differ = let same : found ≡ length nets_of = nets ∙ sym length_of in
       cond-false (n == length nets_of) _ _ (ne_eqb n (length nets_of) (λ e. differ (e ∙ sym same))) ∙ ap (λ k. Err (CountMismatch n k)) (sym same)
@@ -486,19 +488,19 @@ end_back : (items : List NetItem) (kind : TextKind) → IsNetsEndFault items kin
 end_back [] BadHeader fault = refl
 end_back [] BadLine fault = absurd (fault.0 refl)
 end_back [] BadNumber fault = absurd fault
-end_back [] (CountMismatch told found) (inl short) = let e = short.begun in cc
-end_back [] (CountMismatch told found) (inr (inl other)) = let e = other.count in cc
-end_back [] (CountMismatch told found) (inr (inr other)) = let e = other.count in cc
+end_back [] (CountMismatch stated found) (inl short) = let e = short.begun in cc
+end_back [] (CountMismatch stated found) (inr (inl other)) = let e = other.count in cc
+end_back [] (CountMismatch stated found) (inr (inr other)) = let e = other.count in cc
 end_back (first ∷ rest) BadHeader fault = cc
 end_back (first ∷ rest) BadLine fault = end_totals first rest fault.1 _ _ refl refl ∙ missing first rest (latest total_in (first ∷ rest)) (latest pin_total_in (first ∷ rest)) fault.2
 end_back (first ∷ rest) BadNumber fault = absurd fault
-end_back (first ∷ rest) (CountMismatch told found) (inl short) =
-    ap (λ r. r >>= λ done. totals_of first rest (latest total_in (first ∷ rest)) (latest pin_total_in (first ∷ rest))) (short_back (first ∷ rest) told found short)
-end_back (first ∷ rest) (CountMismatch told found) (inr (inl other)) =
-    end_totals first rest other.whole (Some told) _ other.count refl ∙ other_nets first rest told found (latest pin_total_in (first ∷ rest)) other.pins other.nets other.differ
-end_back (first ∷ rest) (CountMismatch told found) (inr (inr other)) = let items = first ∷ rest in
-    end_totals first rest other.whole _ (Some told) other.count other.pins ∙ (right_nets first rest told
-    ∙ (cond-false (told == pins_found items) _ _ (ne_eqb told (pins_found items) (λ e. other.differ (e ∙ sym other.stand))) ∙ ap (λ k. Err (CountMismatch told k)) (sym other.stand)))
+end_back (first ∷ rest) (CountMismatch stated found) (inl short) =
+    ap (λ r. r >>= λ done. totals_of first rest (latest total_in (first ∷ rest)) (latest pin_total_in (first ∷ rest))) (short_back (first ∷ rest) stated found short)
+end_back (first ∷ rest) (CountMismatch stated found) (inr (inl other)) =
+    end_totals first rest other.whole (Some stated) _ other.count refl ∙ other_nets first rest stated found (latest pin_total_in (first ∷ rest)) other.pins other.nets other.differ
+end_back (first ∷ rest) (CountMismatch stated found) (inr (inr other)) = let items = first ∷ rest in
+    end_totals first rest other.whole _ (Some stated) other.count other.pins ∙ (right_nets first rest stated
+    ∙ (cond-false (stated == pins_found items) _ _ (ne_eqb stated (pins_found items) (λ e. other.differ (e ∙ sym other.stand))) ∙ ap (λ k. Err (CountMismatch stated k)) (sym other.stand)))
 
 pub nets_decided : Decides net_form nets_grammar
 nets_decided = record {

@@ -4,13 +4,15 @@ use Rattle.std.proofs.lemmas.Bool.{cond-true, cond-false, or_left, or_right, or_
 use Rattle.book_text.specs.Lines.{NumberedLine}
 use Rattle.book_files.specs.declared.fault.TextKind.{TextKind}
 use Rattle.book_files.specs.declared.fault.TextKind.TheVariants.{BadHeader, BadLine, BadNumber, CountMismatch}
-use Rattle.book_files.specs.Words.{◌>>=◌, latest, is_header, is_keyed, is_keyword, count_of, size_of}
+use Rattle.book_files.specs.Words.{latest, is_header, is_keyed, is_keyword}
+use Rattle.book_files.specs.Forms.Words.{◌>>=◌, count_of, size_of}
 use Rattle.book_files.specs.Entries.{NodeEntry}
 use Rattle.book_files.specs.Shapes.{word_at, IsWhole, IsSize, HasWhole, IsOnceShape}
-use Rattle.book_files.specs.Nodes.{NodeItem, header, total, terminals, node, total_in, terminals_in, node_in, sized, node_of, node_meaning, nodes_told, node_ending, node_form}
+use Rattle.book_files.specs.Nodes.{NodeItem, header, total, terminals, node, total_in, terminals_in, node_in}
+use Rattle.book_files.specs.Forms.Nodes.{sized, node_of, node_meaning, nodes_stated, node_ending, node_form}
 use Rattle.book_files.specs.NodeRules.{is_counted, IsNodeShape, IsNodeLine, IsNodesItem, HasNodesShape, HasNodesNumbers, IsNodesFile, IsNodesEndFault, nodes_grammar}
 use Rattle.book_files.proofs.Bridge.{Decides}
-use Rattle.book_files.proofs.ShapeSteps.{Judges, tells_size, judges_bind, judges_map, keyed_apart, count_judged, count_back, count_told, ToldFault, told_file, told_file_back, told_fault, told_fault_back, shape_item, shape_named, shape_named_back}
+use Rattle.book_files.proofs.ShapeSteps.{Judges, spells_size, judges_bind, judges_map, keyed_apart, count_judged, count_back, count_stated, StatedFault, stated_file, stated_file_back, stated_fault, stated_fault_back, shape_item, shape_named, shape_named_back}
 
 apart : codes "numnodes" ≡ codes "numterminals" → ⊥
 apart e = let same = ap length e in omega arith
@@ -71,10 +73,10 @@ module _ (item : NodeItem) (before : List NodeItem) (number : ℕ) where
       → Judged (name ∷ width ∷ height ∷ rest) (sized number name width height fixed)
   sized_judged name width height rest fixed shape = let words = name ∷ width ∷ height ∷ rest in let un = uncounted words fixed shape in
       judges_bind (HasNodesShape (item ∷ before) words) (HasNodesNumbers words) (IsNodesItem (item ∷ before) (line_of words)) (IsSize width) (size_of width) _
-      (inr (inr (fixed, shape))) (tells_size width) (λ has. has.width un) (λ w is_w.
+      (inr (inr (fixed, shape))) (spells_size width) (λ has. has.width un) (λ w is_w.
       judges_bind (HasNodesShape (item ∷ before) words) (HasNodesNumbers words) (IsNodesItem (item ∷ before) (line_of words)) (IsSize height) (size_of height)
       (λ h. Ok (node (record { line = number; name = name; width = w; height = h; fixed = fixed })))
-      (inr (inr (fixed, shape))) (tells_size height) (λ has. has.height un) (λ h is_h. (
+      (inr (inr (fixed, shape))) (spells_size height) (λ has. has.height un) (λ h is_h. (
         inr (inr (fixed, shape)),
         record { count = λ counted. let e = sym counted ∙ un in cc; width = λ _. (w, is_w); height = λ _. (h, is_h) },
         (λ e. cc, record { shape = shape; number = refl; name = refl; width = is_w; height = is_h }),
@@ -114,7 +116,7 @@ judged item before line = judged_words item before line.number line.words
 
 sized_back : (number : ℕ) (name width height : List ℕ) (entry : NodeEntry) → entry.line ≡ number → entry.name ≡ name → IsSize width entry.width → IsSize height entry.height
     → sized number name width height entry.fixed ≡ Ok (node entry)
-sized_back number name width height entry same_line same_name is_w is_h = rw ((tells_size width).back entry.width is_w) (rw ((tells_size height).back entry.height is_h)
+sized_back number name width height entry same_line same_name is_w is_h = rw ((spells_size width).back entry.width is_w) (rw ((spells_size height).back entry.height is_h)
     (ap₂ (λ l n. Ok (node (record { line = l; name = n; width = entry.width; height = entry.height; fixed = entry.fixed }))) (sym same_line) (sym same_name)))
 
 node_back : (words : List (List ℕ)) (number : ℕ) (entry : NodeEntry) → IsNodeLine (record { number = number; words = words }) entry → node_of number words ≡ Ok (node entry)
@@ -126,7 +128,7 @@ node_back (name ∷ width ∷ height ∷ mark ∷ []) number entry is = let m = 
     rw (m.1, ← m.0) (sized_back number name width height entry is.number is.name is.width is.height)
 node_back (a ∷ b ∷ c ∷ d ∷ more ∷ rest) number entry is = let long = shape_length (a ∷ b ∷ c ∷ d ∷ more ∷ rest) entry.fixed is.shape in absurd (omega arith)
 
-item_back : (before : List NodeItem) (line : NumberedLine) (told : NodeItem) → IsNodesItem before line told → node_meaning before line ≡ Ok told
+item_back : (before : List NodeItem) (line : NumberedLine) (stated : NodeItem) → IsNodesItem before line stated → node_meaning before line ≡ Ok stated
 item_back [] line header is = cond-true (is_header (codes "nodes") line.words) (Ok header) (Err BadHeader) is.1
 item_back [] line (total n) is = absurd (is.0 refl)
 item_back [] line (terminals t) is = absurd (is.0 refl)
@@ -139,42 +141,42 @@ item_back (item ∷ before) line (terminals t) is =
 item_back (item ∷ before) line (node entry) is = let none = or_parts (is_keyed (codes "numnodes") line.words) (is_keyed (codes "numterminals") line.words) (uncounted line.words entry.fixed is.1.shape) in
     cond-false _ _ _ none.0 ∙ (cond-false _ _ _ none.1 ∙ node_back line.words line.number entry is.1)
 
-told_is : (told : Option ℕ) (found : List NodeEntry) → nodes_told told found ≡ count_told told found
-told_is None found = refl
-told_is (Some n) found = refl
+stated_is : (stated : Option ℕ) (found : List NodeEntry) → nodes_stated stated found ≡ count_stated stated found
+stated_is None found = refl
+stated_is (Some n) found = refl
 
 file : (items : List NodeItem) (nodes : List NodeEntry) → node_ending items ≡ Ok nodes → IsNodesFile items nodes
 file [] nodes ends = cc
-file (item ∷ items) nodes ends = let found = filter_map node_in (item ∷ items) in let is = told_file (latest total_in (item ∷ items)) found nodes (sym (told_is _ found) ∙ ends) in
+file (item ∷ items) nodes ends = let found = filter_map node_in (item ∷ items) in let is = stated_file (latest total_in (item ∷ items)) found nodes (sym (stated_is _ found) ∙ ends) in
     record { lines = is.0; count = is.1 }
 
 file_back : (items : List NodeItem) (nodes : List NodeEntry) → IsNodesFile items nodes → node_ending items ≡ Ok nodes
 file_back [] nodes is = let count = is.count in cc
-file_back (item ∷ items) nodes is = let found = filter_map node_in (item ∷ items) in told_is _ found ∙ told_file_back (latest total_in (item ∷ items)) found nodes is.lines is.count
+file_back (item ∷ items) nodes is = let found = filter_map node_in (item ∷ items) in stated_is _ found ∙ stated_file_back (latest total_in (item ∷ items)) found nodes is.lines is.count
 
 end : (items : List NodeItem) (fault : TextKind) → node_ending items ≡ Err fault → IsNodesEndFault items fault
 end [] BadHeader ends = refl
 end [] BadLine ends = cc
 end [] BadNumber ends = cc
-end [] (CountMismatch told found) ends = cc
-end (item ∷ items) fault ends = named fault (told_fault (latest total_in (item ∷ items)) (filter_map node_in (item ∷ items)) fault (sym (told_is (latest total_in (item ∷ items)) (filter_map node_in (item ∷ items))) ∙ ends)) where
-  named : (fault : TextKind) → ToldFault (latest total_in (item ∷ items)) (filter_map node_in (item ∷ items)) fault → IsNodesEndFault (item ∷ items) fault
+end [] (CountMismatch stated found) ends = cc
+end (item ∷ items) fault ends = named fault (stated_fault (latest total_in (item ∷ items)) (filter_map node_in (item ∷ items)) fault (sym (stated_is (latest total_in (item ∷ items)) (filter_map node_in (item ∷ items))) ∙ ends)) where
+  named : (fault : TextKind) → StatedFault (latest total_in (item ∷ items)) (filter_map node_in (item ∷ items)) fault → IsNodesEndFault (item ∷ items) fault
   named BadHeader is = absurd is
   named BadLine is = (λ e. cc, is)
   named BadNumber is = absurd is
-  named (CountMismatch told found) is = is
+  named (CountMismatch stated found) is = is
 
 end_back : (items : List NodeItem) (fault : TextKind) → IsNodesEndFault items fault → node_ending items ≡ Err fault
 end_back [] BadHeader named = refl
 end_back [] BadLine named = absurd (named.0 refl)
 end_back [] BadNumber named = absurd named
-end_back [] (CountMismatch told found) named = let none = named.0 in cc
-end_back (item ∷ items) fault named = told_is (latest total_in (item ∷ items)) (filter_map node_in (item ∷ items)) ∙ told_fault_back (latest total_in (item ∷ items)) (filter_map node_in (item ∷ items)) fault (told_by fault named) where
-  told_by : (fault : TextKind) → IsNodesEndFault (item ∷ items) fault → ToldFault (latest total_in (item ∷ items)) (filter_map node_in (item ∷ items)) fault
-  told_by BadHeader is = cc
-  told_by BadLine is = is.1
-  told_by BadNumber is = absurd is
-  told_by (CountMismatch told found) is = is
+end_back [] (CountMismatch stated found) named = let none = named.0 in cc
+end_back (item ∷ items) fault named = stated_is (latest total_in (item ∷ items)) (filter_map node_in (item ∷ items)) ∙ stated_fault_back (latest total_in (item ∷ items)) (filter_map node_in (item ∷ items)) fault (stated_by fault named) where
+  stated_by : (fault : TextKind) → IsNodesEndFault (item ∷ items) fault → StatedFault (latest total_in (item ∷ items)) (filter_map node_in (item ∷ items)) fault
+  stated_by BadHeader is = cc
+  stated_by BadLine is = is.1
+  stated_by BadNumber is = absurd is
+  stated_by (CountMismatch stated found) is = is
 
 pub nodes_decided : Decides node_form nodes_grammar
 nodes_decided = record {

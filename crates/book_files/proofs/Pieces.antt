@@ -7,15 +7,15 @@ use Rattle.book_outer.specs.Files.{FileEntry, content}
 use Rattle.book_outer.specs.Folder.{Reading, Begins, Reads, TakesFront}
 
 -- the file is there and begins with the bytes, and is read on behind them
-pub record IsTold (files : List FileEntry) (reading : Option Reading) (name bytes : List ℕ) : Type 0 where
+pub record IsReadOn (files : List FileEntry) (reading : Option Reading) (name bytes : List ℕ) : Type 0 where
   pub rest : List ℕ
   pub there : content files name ≡ Some (bytes ++ rest)
-  pub on : reading ≡ Some (record { name = name; place = length bytes })
+  pub on : reading ≡ Some (record { name = name; at = length bytes })
 
--- the bytes are a front of what the file holds, where the files are told
+-- the bytes are a front of what the file holds, where the files are known
 abbrev pub IsFront : Option (List FileEntry) → Option Reading → List ℕ → List ℕ → Type 0
 IsFront None reading name bytes = IsSome reading
-IsFront (Some files) reading name bytes = IsTold files reading name bytes
+IsFront (Some files) reading name bytes = IsReadOn files reading name bytes
 
 some_bytes : (found : Option (List ℕ)) → IsSome found → (bytes : List ℕ) × (found ≡ Some bytes)
 some_bytes None h = cc
@@ -42,10 +42,10 @@ take-front : (rest buffer after : List ℕ) (n : ℕ) → TakesFront rest buffer
 take-front rest buffer after n h = rw h.front (take_at (take n rest) (drop n buffer) n (length-take-le n rest h.there))
 
 -- a read puts the next bytes behind those so far
-IsTold-read : (files : List FileEntry) (new : Option Reading) (name bytes rest buffer after : List ℕ) (n : ℕ)
+IsReadOn-read : (files : List FileEntry) (new : Option Reading) (name bytes rest buffer after : List ℕ) (n : ℕ)
     → content files name ≡ Some (bytes ++ rest) → TakesFront rest buffer after n
-    → new ≡ Some (record { name = name; place = length bytes + n }) → IsTold files new name (bytes ++ take n after)
-IsTold-read files new name bytes rest buffer after n there taken on =
+    → new ≡ Some (record { name = name; at = length bytes + n }) → IsReadOn files new name (bytes ++ take n after)
+IsReadOn-read files new name bytes rest buffer after n there taken on =
     let same = take-front rest buffer after n taken in
     record {
       rest = drop n rest;
@@ -53,11 +53,11 @@ IsTold-read files new name bytes rest buffer after n there taken on =
       on = rw (same, length-append, length-take-le n rest taken.there) on;
     }
 
--- the read of a told file, of what is left of it
-TakesFront-told : (files : List FileEntry) (reading new : Option Reading) (name bytes buffer after : List ℕ) (n : ℕ)
-    → (h : IsTold files reading name bytes) → Reads (Some files) reading buffer after (Ok n) new
-    → TakesFront h.rest buffer after n × (new ≡ Some (record { name = name; place = length bytes + n }))
-TakesFront-told files reading new name bytes buffer after n h r =
+-- the read of a known file, of what is left of it
+TakesFront-known : (files : List FileEntry) (reading new : Option Reading) (name bytes buffer after : List ℕ) (n : ℕ)
+    → (h : IsReadOn files reading name bytes) → Reads (Some files) reading buffer after (Ok n) new
+    → TakesFront h.rest buffer after n × (new ≡ Some (record { name = name; at = length bytes + n }))
+TakesFront-known files reading new name bytes buffer after n h r =
     let on = rw h.on at r in
     (subst (λ (rest : List ℕ). TakesFront rest buffer after n) (rest-is (content files name) bytes h.rest h.there) on.1.0, on.1.1)
 
@@ -65,8 +65,8 @@ pub IsFront-read : (files : Option (List FileEntry)) (reading new : Option Readi
     → IsFront files reading name bytes → Reads files reading buffer after (Ok n) new → IsFront files new name (bytes ++ take n after)
 IsFront-read None reading new name bytes buffer after n h r = r.1
 IsFront-read (Some files) reading new name bytes buffer after n h r =
-    let taken = TakesFront-told files reading new name bytes buffer after n h r in
-    IsTold-read files new name bytes h.rest buffer after n h.there taken.0 taken.1
+    let taken = TakesFront-known files reading new name bytes buffer after n h r in
+    IsReadOn-read files new name bytes h.rest buffer after n h.there taken.0 taken.1
 
 -- the front of a buffer of the given length, as it was lent
 pub take-lent : (n len : ℕ) (buffer rest : List ℕ) → length buffer ≡ len → n ≤ len → take n (take len (buffer ++ rest)) ≡ take n buffer
@@ -83,5 +83,5 @@ pub content-end : (files : Option (List FileEntry)) (reading new : Option Readin
     → IsFront files reading name bytes → Reads files reading buffer after (Ok 0) new → IfSome files (λ files. content files name ≡ Some bytes)
 content-end None reading new name bytes buffer after h r = tt
 content-end (Some files) reading new name bytes buffer after h r =
-    let taken = TakesFront-told files reading new name bytes buffer after 0 h r in
+    let taken = TakesFront-known files reading new name bytes buffer after 0 h r in
     h.there ∙ ap (λ (rest : List ℕ). Some (bytes ++ rest)) (taken.0.end refl) ∙ ap Some (append-nil bytes)

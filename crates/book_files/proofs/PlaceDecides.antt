@@ -6,13 +6,15 @@ use Rattle.book_files.specs.declared.orient.Orient.{Orient}
 use Rattle.book_files.specs.declared.orient.Orient.TheVariants.{N}
 use Rattle.book_files.specs.declared.fault.TextKind.{TextKind}
 use Rattle.book_files.specs.declared.fault.TextKind.TheVariants.{BadHeader, BadLine}
-use Rattle.book_files.specs.Words.{is_header, is_colon_word, number_of}
+use Rattle.book_files.specs.Words.{is_header, is_colon_word}
+use Rattle.book_files.specs.Forms.Words.{number_of}
 use Rattle.book_files.specs.Entries.{PlaceEntry}
 use Rattle.book_files.specs.Shapes.{IsNumber}
-use Rattle.book_files.specs.Places.{PlaceItem, header, placed, place_in, orient_of, is_fixed_mark, placed_at, turned, place_of, place_meaning, place_ending, place_form}
+use Rattle.book_files.specs.Places.{PlaceItem, header, placed, place_in, orient_of, is_fixed_mark}
+use Rattle.book_files.specs.Forms.Places.{placed_at, turned, place_of, place_meaning, place_ending, place_form}
 use Rattle.book_files.specs.PlaceRules.{IsPlaceShape, HasPlacesShape, HasPlacesNumbers, IsPlacesItem, IsPlaceLine, places_grammar}
 use Rattle.book_files.proofs.Bridge.{Decides}
-use Rattle.book_files.proofs.ShapeSteps.{Judges, tells_number, judges_bind, shape_item, shape_named, shape_named_back, plain_file, plain_file_back, plain_end, plain_end_back}
+use Rattle.book_files.proofs.ShapeSteps.{Judges, spells_number, judges_bind, shape_item, shape_named, shape_named_back, plain_file, plain_file_back, plain_end, plain_end_back}
 
 module _ (item : PlaceItem) (before : List PlaceItem) (number : ℕ) where
   abbrev line_of : List (List ℕ) → NumberedLine
@@ -25,28 +27,28 @@ module _ (item : PlaceItem) (before : List PlaceItem) (number : ℕ) where
       → Judged (name ∷ x ∷ y ∷ rest) (placed_at number name x y orient fixed)
   at_judged name x y rest orient fixed shape = let words = name ∷ x ∷ y ∷ rest in
       judges_bind (HasPlacesShape (item ∷ before) words) (HasPlacesNumbers words) (IsPlacesItem (item ∷ before) (line_of words)) (IsNumber x) (number_of x) _
-      (orient, fixed, shape) (tells_number x) (λ has. has.0) (λ at_x is_x.
+      (orient, fixed, shape) (spells_number x) (λ has. has.0) (λ at_x is_x.
       judges_bind (HasPlacesShape (item ∷ before) words) (HasPlacesNumbers words) (IsPlacesItem (item ∷ before) (line_of words)) (IsNumber y) (number_of y)
       (λ at_y. Ok (placed (record { line = number; name = name; x = at_x; y = at_y; orient = orient; fixed = fixed })))
-      (orient, fixed, shape) (tells_number y) (λ has. has.1) (λ at_y is_y.
+      (orient, fixed, shape) (spells_number y) (λ has. has.1) (λ at_y is_y.
       ((orient, fixed, shape), ((at_x, is_x), (at_y, is_y)), (λ e. cc, record { shape = shape; number = refl; name = refl; x = is_x; y = is_y }))))
 
   mark_judged : (name x y mark : List ℕ) (b : Bool) → is_fixed_mark mark ≡ b → Judged (name ∷ x ∷ y ∷ mark ∷ []) (if b then placed_at number name x y N true else Err BadLine)
   mark_judged name x y mark true is = at_judged name x y (mark ∷ []) N true (omega arith, (is, refl, refl))
   mark_judged name x y mark false is = λ shape. let e = shape.2.1.0 in cc
 
-  turned_judged : (name x y colon way : List ℕ) (rest : List (List ℕ)) (told : Option Orient) (b fixed : Bool) → orient_of way ≡ told → is_colon_word colon ≡ b
+  turned_judged : (name x y colon way : List ℕ) (rest : List (List ℕ)) (stated : Option Orient) (b fixed : Bool) → orient_of way ≡ stated → is_colon_word colon ≡ b
       → ((orient : Orient) → orient_of way ≡ Some orient → is_colon_word colon ≡ true → IsPlaceShape (name ∷ x ∷ y ∷ colon ∷ way ∷ rest) orient fixed)
       → ((orient : Orient) (fixed : Bool) → IsPlaceShape (name ∷ x ∷ y ∷ colon ∷ way ∷ rest) orient fixed → IsTrue (is_colon_word colon) × (orient_of way ≡ Some orient))
-      → Judged (name ∷ x ∷ y ∷ colon ∷ way ∷ rest) (turned number name x y colon told fixed)
-  turned_judged name x y colon way rest None b fixed told is shape parts = λ has. let both = parts has.0 has.1 has.2 in cc
-  turned_judged name x y colon way rest (Some orient) true fixed told is shape parts = rw is (at_judged name x y (colon ∷ way ∷ rest) orient fixed (shape orient told is))
-  turned_judged name x y colon way rest (Some orient) false fixed told is shape parts = rw is (λ has. let both = parts has.0 has.1 has.2 in cc)
+      → Judged (name ∷ x ∷ y ∷ colon ∷ way ∷ rest) (turned number name x y colon stated fixed)
+  turned_judged name x y colon way rest None b fixed stated is shape parts = λ has. let both = parts has.0 has.1 has.2 in cc
+  turned_judged name x y colon way rest (Some orient) true fixed stated is shape parts = rw is (at_judged name x y (colon ∷ way ∷ rest) orient fixed (shape orient stated is))
+  turned_judged name x y colon way rest (Some orient) false fixed stated is shape parts = rw is (λ has. let both = parts has.0 has.1 has.2 in cc)
 
   end_judged : (name x y colon way mark : List ℕ) (b : Bool) → is_fixed_mark mark ≡ b
       → Judged (name ∷ x ∷ y ∷ colon ∷ way ∷ mark ∷ []) (if b then turned number name x y colon (orient_of way) true else Err BadLine)
   end_judged name x y colon way mark true is = turned_judged name x y colon way (mark ∷ []) (orient_of way) (is_colon_word colon) true refl refl
-      (λ orient told colons. (omega arith, (colons, told, is, refl))) (λ orient fixed shape. (shape.1.0, shape.1.1))
+      (λ orient stated colons. (omega arith, (colons, stated, is, refl))) (λ orient fixed shape. (shape.1.0, shape.1.1))
   end_judged name x y colon way mark false is = λ shape. let e = shape.2.1.2 in cc
 
   judged_words : (words : List (List ℕ)) → Judged words (place_of number words)
@@ -56,7 +58,7 @@ module _ (item : PlaceItem) (before : List PlaceItem) (number : ℕ) where
   judged_words (name ∷ x ∷ y ∷ []) = at_judged name x y [] N false (omega arith, (refl, refl))
   judged_words (name ∷ x ∷ y ∷ mark ∷ []) = mark_judged name x y mark (is_fixed_mark mark) refl
   judged_words (name ∷ x ∷ y ∷ colon ∷ way ∷ []) = turned_judged name x y colon way [] (orient_of way) (is_colon_word colon) false refl refl
-      (λ orient told colons. (omega arith, (colons, told, refl))) (λ orient fixed shape. (shape.1.0, shape.1.1))
+      (λ orient stated colons. (omega arith, (colons, stated, refl))) (λ orient fixed shape. (shape.1.0, shape.1.1))
   judged_words (name ∷ x ∷ y ∷ colon ∷ way ∷ mark ∷ []) = end_judged name x y colon way mark (is_fixed_mark mark) refl
   judged_words (name ∷ x ∷ y ∷ colon ∷ way ∷ mark ∷ more ∷ rest) = λ shape. shape.2.1
 
@@ -66,7 +68,7 @@ judged item before line = judged_words item before line.number line.words
 
 at_back : (number : ℕ) (name x y : List ℕ) (entry : PlaceEntry) → entry.line ≡ number → entry.name ≡ name → IsNumber x entry.x → IsNumber y entry.y
     → placed_at number name x y entry.orient entry.fixed ≡ Ok (placed entry)
-at_back number name x y entry same_line same_name is_x is_y = rw ((tells_number x).back entry.x is_x) (rw ((tells_number y).back entry.y is_y) (ap₂ (λ l n. Ok (placed (record { line = l; name = n; x = entry.x; y = entry.y; orient = entry.orient; fixed = entry.fixed }))) (sym same_line) (sym same_name)))
+at_back number name x y entry same_line same_name is_x is_y = rw ((spells_number x).back entry.x is_x) (rw ((spells_number y).back entry.y is_y) (ap₂ (λ l n. Ok (placed (record { line = l; name = n; x = entry.x; y = entry.y; orient = entry.orient; fixed = entry.fixed }))) (sym same_line) (sym same_name)))
 
 place_back : (words : List (List ℕ)) (number : ℕ) (entry : PlaceEntry) → IsPlaceLine (record { number = number; words = words }) entry → place_of number words ≡ Ok (placed entry)
 place_back [] number entry is = let three = is.shape.0 in absurd (omega arith)
@@ -78,7 +80,7 @@ place_back (name ∷ x ∷ y ∷ colon ∷ way ∷ []) number entry is = let e =
 place_back (name ∷ x ∷ y ∷ colon ∷ way ∷ mark ∷ []) number entry is = let e = is.shape.1 in rw (e.2, e.1, e.0, ← e.3) (at_back number name x y entry is.number is.name is.x is.y)
 place_back (name ∷ x ∷ y ∷ colon ∷ way ∷ mark ∷ more ∷ rest) number entry is = absurd is.shape.1
 
-item_back : (before : List PlaceItem) (line : NumberedLine) (told : PlaceItem) → IsPlacesItem before line told → place_meaning before line ≡ Ok told
+item_back : (before : List PlaceItem) (line : NumberedLine) (stated : PlaceItem) → IsPlacesItem before line stated → place_meaning before line ≡ Ok stated
 item_back [] line header is = cond-true (is_header (codes "pl") line.words) (Ok header) (Err BadHeader) is.1
 item_back [] line (placed entry) is = absurd (is.0 refl)
 item_back (item ∷ before) line header is = let e = is.0 in cc

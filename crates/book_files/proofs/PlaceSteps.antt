@@ -7,9 +7,10 @@ use Rattle.book_files.specs.declared.records.PlaceLine.{PlaceLine}
 use Rattle.book_files.specs.declared.places.PlacesSoFar.{PlacesSoFar}
 use Rattle.book_files.specs.Words.{is_header}
 use Rattle.book_files.specs.Entries.{place_entry}
-use Rattle.book_files.specs.Places.{PlaceItem, header, placed, place_in, place_of, place_meaning, place_form}
-use Rattle.book_files.specs.Progress.{StandsFor}
-use Rattle.book_files.specs.SoFar.{has_items, IsPlacesSoFar}
+use Rattle.book_files.specs.Places.{PlaceItem, header, placed, place_in}
+use Rattle.book_files.specs.Forms.Places.{place_of, place_meaning, place_form}
+use Rattle.book_files.specs.Forms.Progress.{StandsFor}
+use Rattle.book_files.specs.Forms.SoFar.{has_items, IsPlacesSoFar}
 use Rattle.book_files.proofs.Items.{has_items-push, kept-yes, kept-no}
 use Rattle.book_files.proofs.Progresses.{kept}
 

@@ -2,6 +2,7 @@
 use Rattle.std.proofs.Common.{◌≡◌, ◌≢◌, ℕ, ◌+◌, ◌-◌, ◌^◌, ◌<◌, Bool, true, false, List, [], ◌∷◌, ◌++◌, length, map, flat_map, codes, Some, Ok, slice_index, ℤ, pos, neg_ℤ, ◌≤ℤ◌, refl, sym, ap, append_assoc, inl, inr, arith, subst}
 use Rattle.std.specs.List.{All, AllByRecursion, list_all, filter_map}
 use Rattle.std.proofs.lemmas.List.Elements.{All-from_recursion}
+use Rattle.book_text.specs.declared.decimal.TheConstants.{MOST_MICRO}
 use Rattle.book_text.specs.Lines.{IsWord, is_word_byte, spaced, words_of, lines_of, has_content, content_from}
 use Rattle.book_text.specs.Decimal.{canonical, micro_value}
 use Rattle.book_files.specs.declared.orient.Orient.{Orient}
@@ -70,8 +71,8 @@ some_items (first ∷ before) item e = cc
 
 module _ (words_back : (words : List (List ℕ)) → All IsWord words → words_of (spaced words) ≡ words)
     (one_line : (words : List (List ℕ)) (text : List ℕ) → All IsWord words → lines_of (spaced words ++ 10 ∷ text) ≡ spaced words ∷ lines_of text)
-    (number_back : (z : ℤ) → neg_ℤ (pos (10 ^ 12)) ≤ℤ z → z ≤ℤ pos (10 ^ 12) → micro_value (canonical z) ≡ Ok z)
-    (number_word : (z : ℤ) → neg_ℤ (pos (10 ^ 12)) ≤ℤ z → z ≤ℤ pos (10 ^ 12) → IsWord (canonical z)) where
+    (number_back : (z : ℤ) → neg_ℤ (pos MOST_MICRO) ≤ℤ z → z ≤ℤ pos MOST_MICRO → micro_value (canonical z) ≡ Ok z)
+    (number_word : (z : ℤ) → neg_ℤ (pos MOST_MICRO) ≤ℤ z → z ≤ℤ pos MOST_MICRO → IsWord (canonical z)) where
   -- one line in front of a text
   content-line : (n : ℕ) (words : List (List ℕ)) (text : List ℕ) → All IsWord words → has_content words ≡ true
       → content_from n (line_of words ++ text) ≡ record { number = n; words = words } ∷ content_from (n + 1) text

@@ -3,8 +3,8 @@ use Rattle.std.proofs.Common.{◌≡◌, List, [], ◌∷◌, ◌++◌, Ok, Err,
 use Rattle.std.proofs.lemmas.List.{append-nil}
 use Rattle.book_text.specs.Lines.{NumberedLine}
 use Rattle.book_files.specs.declared.fault.TextKind.{TextKind}
-use Rattle.book_files.specs.Form.{Form, Mean}
-use Rattle.book_files.specs.Progress.{StandsFor, Refuses}
+use Rattle.book_files.specs.Forms.Form.{Form, Mean}
+use Rattle.book_files.specs.Forms.Progress.{StandsFor, Refuses}
 
 -- one line more, with its meaning
 mean_more : {I R : Type 0} (form : Form I R) (before : List I) (lines : List NumberedLine) (items : List I) (line : NumberedLine) (item : I)

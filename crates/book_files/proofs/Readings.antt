@@ -4,7 +4,8 @@ use Rattle.std.proofs.lemmas.List.{append-nil}
 use Rattle.book_text.specs.Lines.{NumberedLine, content_of, end_line}
 use Rattle.book_files.specs.declared.fault.TextKind.{TextKind}
 use Rattle.book_files.specs.declared.fault.TextFault.{TextFault}
-use Rattle.book_files.specs.Form.{Form, Mean, Reads, FirstFault, FaultAtLine}
+use Rattle.book_files.specs.Forms.Form.{Form, Mean}
+use Rattle.book_files.proofs.FormTexts.{Reads, FirstFault, FaultAtLine}
 
 -- The text reads as some records or has a first fault, never both, and there is one value only.
 pub record HasOneAnswer {I R : Type 0} (form : Form I R) (text : List ℕ) : Type 0 where

@@ -11,13 +11,15 @@ use Rattle.book_files.specs.declared.fault.TextKind.{TextKind}
 use Rattle.book_files.specs.declared.fault.TextKind.TheVariants.{BadHeader, BadLine, BadNumber, CountMismatch}
 use Rattle.book_files.specs.declared.row_lines.PartKey.{PartKey}
 use Rattle.book_files.specs.declared.row_lines.PartKey.TheVariants.{Coordinate, Height, SiteWidth, SiteSpacing, SiteOrient, SiteSymmetry, Subrow}
-use Rattle.book_files.specs.Words.{◌>>=◌, latest, is_header, is_keyed, is_keyword, is_colon_word, count_of, number_of, whole_of}
+use Rattle.book_files.specs.Words.{latest, is_header, is_keyed, is_keyword, is_colon_word}
+use Rattle.book_files.specs.Forms.Words.{◌>>=◌, count_of, number_of, whole_of}
 use Rattle.book_files.specs.Shapes.{word_at, IsWhole, IsNumber, IsPositive, HasWhole, HasNumber, HasPositive, IsOnceShape}
 use Rattle.book_files.specs.Entries.{SubrowEntry, RowEntry}
-use Rattle.book_files.specs.Rows.{RowPart, coordinate, height, site_width, site_spacing, site_orient, site_symmetry, subrow, ended, RowItem, header, total, begun, part, total_in, coordinate_in, height_in, width_in, spacing_in, orient_in, symmetry_in, open_block, blocks_in, is_row_start, is_row_end, key_of, told_by, above_zero, positive_of, once_by, is_subrow, subrow_at, subrow_of, by_key, inner_of, pitch_in, closed, row_of, part_of, outside_of, within_or_outside, row_meaning, entry_of_row, rows_told, row_ending, row_form}
+use Rattle.book_files.specs.Rows.{RowPart, coordinate, height, site_width, site_spacing, site_orient, site_symmetry, subrow, ended, RowItem, header, total, begun, part, total_in, coordinate_in, height_in, width_in, spacing_in, orient_in, symmetry_in, open_block, blocks_in, is_row_start, is_row_end, entry_of_row}
+use Rattle.book_files.specs.Forms.Rows.{key_of, stated_by, above_zero, positive_of, once_by, is_subrow, subrow_at, subrow_of, by_key, inner_of, pitch_in, closed, row_of, part_of, outside_of, within_or_outside, row_meaning, rows_stated, row_ending, row_form}
 use Rattle.book_files.specs.RowRules.{IsSubrowShape, IsOnceKeyed, IsWholeBlock, IsPartShape, ArePartNumbers, IsRowsItem, HasRowsShape, HasRowsNumbers, IsRowsFile, IsRowsEndFault, rows_grammar}
 use Rattle.book_files.proofs.Bridge.{Decides}
-use Rattle.book_files.proofs.ShapeSteps.{Judges, Tells, tells_number, tells_whole, judges_bind, judges_told, judges_map, count_judged, count_back, shape_item, shape_named, shape_named_back, count_told, ToldFault, told_file, told_file_back, told_fault, told_fault_back}
+use Rattle.book_files.proofs.ShapeSteps.{Judges, Spells, spells_number, spells_whole, judges_bind, judges_stated, judges_map, count_judged, count_back, shape_item, shape_named, shape_named_back, count_stated, StatedFault, stated_file, stated_file_back, stated_fault, stated_fault_back}
 use Rattle.book_files.proofs.RowSteps.{at_end, part_inner}
 
 -- Keywords
@@ -123,45 +125,45 @@ keyed_start key words keyed = tested (is_row_start words) refl where
 
 -- Numbers
 
-tells_positive : (word : List ℕ) → Tells (IsPositive word) (positive_of word)
-tells_positive word = tells_above (number_of word) (tells_number word) where
-  tells_above : (r : Result ℤ TextKind) → Tells (IsNumber word) r → Tells (IsPositive word) (r >>= above_zero)
-  tells_above (Err kind) tells = record { value = λ x e. cc; back = λ x is. let e = tells.back x is.0 in cc; fault = λ other e. let same : kind ≡ other = cc in sym same ∙ tells.fault kind refl }
-  tells_above (Ok y) tells = tested (int_lt (pos 0) y) refl where
-    tested : (b : Bool) → int_lt (pos 0) y ≡ b → Tells (IsPositive word) (if b then Ok y else Err BadNumber)
+spells_positive : (word : List ℕ) → Spells (IsPositive word) (positive_of word)
+spells_positive word = spells_above (number_of word) (spells_number word) where
+  spells_above : (r : Result ℤ TextKind) → Spells (IsNumber word) r → Spells (IsPositive word) (r >>= above_zero)
+  spells_above (Err kind) spells = record { value = λ x e. cc; back = λ x is. let e = spells.back x is.0 in cc; fault = λ other e. let same : kind ≡ other = cc in sym same ∙ spells.fault kind refl }
+  spells_above (Ok y) spells = tested (int_lt (pos 0) y) refl where
+    tested : (b : Bool) → int_lt (pos 0) y ≡ b → Spells (IsPositive word) (if b then Ok y else Err BadNumber)
     tested true is = record {
-      value = λ x e. let same : y ≡ x = cc in subst (IsPositive word) same (tells.value y refl, grind (arith, ints));
-      back = λ x both. tells.back x both.0;
+      value = λ x e. let same : y ≡ x = cc in subst (IsPositive word) same (spells.value y refl, grind (arith, ints));
+      back = λ x both. spells.back x both.0;
       fault = λ kind e. cc;
     }
     tested false is = record {
       value = λ x e. cc;
-      back = λ x both. let same : y ≡ x = let e = tells.back x both.0 in cc in let above : pos 0 <ℤ y = subst (λ v. pos 0 <ℤ v) (sym same) both.1 in absurd (grind (arith, ints));
+      back = λ x both. let same : y ≡ x = let e = spells.back x both.0 in cc in let above : pos 0 <ℤ y = subst (λ v. pos 0 <ℤ v) (sym same) both.1 in absurd (grind (arith, ints));
       fault = λ kind e. let same : BadNumber ≡ kind = cc in sym same;
     }
 
 -- A keyed line of three words: its shape, and then its number.
-once_judged : {I A V : Type 0} (key : List ℕ) (told : I → Option A) (before : List I) (value : List ℕ → Result V TextKind) (IsV : List ℕ → V → Type 0) → ((word : List ℕ) → Tells (IsV word) (value word))
+once_judged : {I A V : Type 0} (key : List ℕ) (stated : I → Option A) (before : List I) (value : List ℕ → Result V TextKind) (IsV : List ℕ → V → Type 0) → ((word : List ℕ) → Spells (IsV word) (value word))
     → (words : List (List ℕ)) → is_keyed key words ≡ true
-    → Judges (IsOnceShape key told before words) ((v : V) × IsV (word_at words 2) v) (IsV (word_at words 2)) (once_by value (is_some (latest told before)) words)
-once_judged key told before value IsV tells [] keyed = λ shape. let e = shape.three in cc
-once_judged key told before value IsV tells (first ∷ []) keyed = λ shape. let e = shape.three in omega arith
-once_judged key told before value IsV tells (first ∷ colon ∷ []) keyed = λ shape. let e = shape.three in omega arith
-once_judged {I} {A} {V} key told before value IsV tells (first ∷ colon ∷ word ∷ []) keyed = once (latest told before) refl where
-  once : (o : Option A) → latest told before ≡ o
-      → Judges (IsOnceShape key told before (first ∷ colon ∷ word ∷ [])) ((v : V) × IsV word v) (IsV word) (if is_some o then Err BadLine else value word)
+    → Judges (IsOnceShape key stated before words) ((v : V) × IsV (word_at words 2) v) (IsV (word_at words 2)) (once_by value (is_some (latest stated before)) words)
+once_judged key stated before value IsV spells [] keyed = λ shape. let e = shape.three in cc
+once_judged key stated before value IsV spells (first ∷ []) keyed = λ shape. let e = shape.three in omega arith
+once_judged key stated before value IsV spells (first ∷ colon ∷ []) keyed = λ shape. let e = shape.three in omega arith
+once_judged {I} {A} {V} key stated before value IsV spells (first ∷ colon ∷ word ∷ []) keyed = once (latest stated before) refl where
+  once : (o : Option A) → latest stated before ≡ o
+      → Judges (IsOnceShape key stated before (first ∷ colon ∷ word ∷ [])) ((v : V) × IsV word v) (IsV word) (if is_some o then Err BadLine else value word)
   once (Some x) is = λ shape. let e = shape.once in cc
-  once None is = judges_told (IsOnceShape key told before (first ∷ colon ∷ word ∷ [])) ((v : V) × IsV word v) (IsV word) (value word)
-      (record { keyed = keyed; three = refl; once = is }) (tells word) (λ v. v) (λ v is_v. (v, is_v))
-once_judged key told before value IsV tells (first ∷ colon ∷ word ∷ more ∷ rest) keyed = λ shape. let e = shape.three in omega arith
+  once None is = judges_stated (IsOnceShape key stated before (first ∷ colon ∷ word ∷ [])) ((v : V) × IsV word v) (IsV word) (value word)
+      (record { keyed = keyed; three = refl; once = is }) (spells word) (λ v. v) (λ v is_v. (v, is_v))
+once_judged key stated before value IsV spells (first ∷ colon ∷ word ∷ more ∷ rest) keyed = λ shape. let e = shape.three in omega arith
 
-once_back : {I A V : Type 0} (key : List ℕ) (told : I → Option A) (before : List I) (value : List ℕ → Result V TextKind) (IsV : List ℕ → V → Type 0) → ((word : List ℕ) → Tells (IsV word) (value word))
-    → (words : List (List ℕ)) (v : V) → IsOnceShape key told before words → IsV (word_at words 2) v → once_by value (is_some (latest told before)) words ≡ Ok v
-once_back key told before value IsV tells [] v shape is = let e = shape.three in cc
-once_back key told before value IsV tells (first ∷ []) v shape is = let e = shape.three in absurd (omega arith)
-once_back key told before value IsV tells (first ∷ colon ∷ []) v shape is = let e = shape.three in absurd (omega arith)
-once_back key told before value IsV tells (first ∷ colon ∷ word ∷ []) v shape is = rw shape.once ((tells word).back v is)
-once_back key told before value IsV tells (first ∷ colon ∷ word ∷ more ∷ rest) v shape is = let e = shape.three in absurd (omega arith)
+once_back : {I A V : Type 0} (key : List ℕ) (stated : I → Option A) (before : List I) (value : List ℕ → Result V TextKind) (IsV : List ℕ → V → Type 0) → ((word : List ℕ) → Spells (IsV word) (value word))
+    → (words : List (List ℕ)) (v : V) → IsOnceShape key stated before words → IsV (word_at words 2) v → once_by value (is_some (latest stated before)) words ≡ Ok v
+once_back key stated before value IsV spells [] v shape is = let e = shape.three in cc
+once_back key stated before value IsV spells (first ∷ []) v shape is = let e = shape.three in absurd (omega arith)
+once_back key stated before value IsV spells (first ∷ colon ∷ []) v shape is = let e = shape.three in absurd (omega arith)
+once_back key stated before value IsV spells (first ∷ colon ∷ word ∷ []) v shape is = rw shape.once ((spells word).back v is)
+once_back key stated before value IsV spells (first ∷ colon ∷ word ∷ more ∷ rest) v shape is = let e = shape.three in absurd (omega arith)
 
 abbrev IsSubrow : List (List ℕ) → SubrowEntry → Type 0
 IsSubrow words entry = IsNumber (word_at words 2) entry.x × IsWhole (word_at words 5) entry.sites
@@ -182,8 +184,8 @@ subrow_judged (a ∷ b ∷ x ∷ c ∷ d ∷ n ∷ []) keyed = tested (is_subrow
   words = a ∷ b ∷ x ∷ c ∷ d ∷ n ∷ []
 
   at_judged : IsSubrowShape words → Judges (IsSubrowShape words) (HasSubrow words) (IsSubrow words) (subrow_at x n)
-  at_judged shape = judges_bind (IsSubrowShape words) (HasSubrow words) (IsSubrow words) (IsNumber x) (number_of x) _ shape (tells_number x) (λ has. has.0) (λ at is_at.
-      judges_bind (IsSubrowShape words) (HasSubrow words) (IsSubrow words) (IsWhole n) (whole_of n) (λ sites. Ok (record { x = at; sites = sites })) shape (tells_whole n) (λ has. has.1) (λ sites is_sites.
+  at_judged shape = judges_bind (IsSubrowShape words) (HasSubrow words) (IsSubrow words) (IsNumber x) (number_of x) _ shape (spells_number x) (λ has. has.0) (λ at is_at.
+      judges_bind (IsSubrowShape words) (HasSubrow words) (IsSubrow words) (IsWhole n) (whole_of n) (λ sites. Ok (record { x = at; sites = sites })) shape (spells_whole n) (λ has. has.1) (λ sites is_sites.
       (shape, ((at, is_at), (sites, is_sites)), (is_at, is_sites))))
 
   tested : (is : Bool) → is_subrow c d ≡ is → Judges (IsSubrowShape words) (HasSubrow words) (IsSubrow words) (if is then subrow_at x n else Err BadLine)
@@ -199,15 +201,15 @@ subrow_back (a ∷ b ∷ x ∷ c ∷ []) entry shape is = let e = shape.six in a
 subrow_back (a ∷ b ∷ x ∷ c ∷ d ∷ []) entry shape is = let e = shape.six in absurd (omega arith)
 subrow_back (a ∷ b ∷ x ∷ c ∷ d ∷ n ∷ more ∷ rest) entry shape is = let e = shape.six in absurd (omega arith)
 subrow_back (a ∷ b ∷ x ∷ c ∷ d ∷ n ∷ []) entry shape is = cond-true _ _ _ (and_from (is_keyword (codes "numsites") c) (is_colon_word d) shape.sites shape.colon)
-    ∙ rw ((tells_number x).back entry.x is.0) (rw ((tells_whole n).back entry.sites is.1) refl)
+    ∙ rw ((spells_number x).back entry.x is.0) (rw ((spells_whole n).back entry.sites is.1) refl)
 
 -- Lines within a block
 
 abbrev PartShape : List RowPart → List (List ℕ) → Type 0
-PartShape parts words = (told : RowPart) × IsPartShape parts words told
+PartShape parts words = (stated : RowPart) × IsPartShape parts words stated
 
 abbrev IsPart : List RowPart → List (List ℕ) → RowPart → Type 0
-IsPart parts words told = IsPartShape parts words told × ArePartNumbers words told
+IsPart parts words stated = IsPartShape parts words stated × ArePartNumbers words stated
 
 abbrev ShapeAt : PartKey → List RowPart → List (List ℕ) → Type 0
 ShapeAt Coordinate parts words = IsOnceShape (codes "coordinate") coordinate_in parts words
@@ -281,7 +283,7 @@ module _ (parts : List RowPart) (words : List (List ℕ)) where
   numbers_at SiteSymmetry keyed has = tt
   numbers_at Subrow keyed has = (has.origin keyed, has.sites keyed)
 
-  shape_key : (told : RowPart) → is_row_end words ≡ false → IsPartShape parts words told → key_of words ≡ key_in told
+  shape_key : (stated : RowPart) → is_row_end words ≡ false → IsPartShape parts words stated → key_of words ≡ key_in stated
   shape_key (coordinate y) other shape = key_at words Coordinate shape.keyed
   shape_key (height h) other shape = key_at words Height shape.keyed
   shape_key (site_width w) other shape = key_at words SiteWidth shape.keyed
@@ -291,7 +293,7 @@ module _ (parts : List RowPart) (words : List (List ℕ)) where
   shape_key (subrow entry) other shape = key_at words Subrow shape.keyed
   shape_key ended other shape = let is = shape.0 in cc
 
-  shape_by : (k : PartKey) (told : RowPart) → IsPartShape parts words told → key_in told ≡ Some k → ShapeAt k parts words
+  shape_by : (k : PartKey) (stated : RowPart) → IsPartShape parts words stated → key_in stated ≡ Some k → ShapeAt k parts words
   shape_by k (coordinate y) shape e = let same : Coordinate ≡ k = cc in subst (λ j. ShapeAt j parts words) same shape
   shape_by k (height h) shape e = let same : Height ≡ k = cc in subst (λ j. ShapeAt j parts words) same shape
   shape_by k (site_width w) shape e = let same : SiteWidth ≡ k = cc in subst (λ j. ShapeAt j parts words) same shape
@@ -305,33 +307,33 @@ module _ (parts : List RowPart) (words : List (List ℕ)) where
   shape_at k other keyed s = shape_by k s.0 s.1 (sym (shape_key s.0 other s.1) ∙ key_at words k keyed)
 
   -- a line of which nothing is asked but that it stands once
-  once_keyed_judged : {A : Type 0} (key : List ℕ) (told : RowPart → Option A) (item : RowPart) → is_keyed key words ≡ true → (IsOnceKeyed key told parts words → IsPart parts words item) → (IsOnceKeyed key told parts words → HasRowsNumbers words)
-      → (PartShape parts words → IsOnceKeyed key told parts words) → Judges (PartShape parts words) (HasRowsNumbers words) (IsPart parts words) (if is_some (latest told parts) then Err BadLine else Ok item)
-  once_keyed_judged {A} key told item keyed is numbers back = tested (latest told parts) refl where
-    tested : (o : Option A) → latest told parts ≡ o → Judges (PartShape parts words) (HasRowsNumbers words) (IsPart parts words) (if is_some o then Err BadLine else Ok item)
+  once_keyed_judged : {A : Type 0} (key : List ℕ) (stated : RowPart → Option A) (item : RowPart) → is_keyed key words ≡ true → (IsOnceKeyed key stated parts words → IsPart parts words item) → (IsOnceKeyed key stated parts words → HasRowsNumbers words)
+      → (PartShape parts words → IsOnceKeyed key stated parts words) → Judges (PartShape parts words) (HasRowsNumbers words) (IsPart parts words) (if is_some (latest stated parts) then Err BadLine else Ok item)
+  once_keyed_judged {A} key stated item keyed is numbers back = tested (latest stated parts) refl where
+    tested : (o : Option A) → latest stated parts ≡ o → Judges (PartShape parts words) (HasRowsNumbers words) (IsPart parts words) (if is_some o then Err BadLine else Ok item)
     tested (Some x) e = λ shape. let once = (back shape).once in cc
-    tested None e = let shape : IsOnceKeyed key told parts words = record { keyed = keyed; once = e } in ((item, (is shape).0), numbers shape, is shape)
+    tested None e = let shape : IsOnceKeyed key stated parts words = record { keyed = keyed; once = e } in ((item, (is shape).0), numbers shape, is shape)
 
-  judged_at : (k : PartKey) → is_row_end words ≡ false → is_keyed (name_of k) words ≡ true → Judges (PartShape parts words) (HasRowsNumbers words) (IsPart parts words) (by_key (told_by parts) (Some k) words)
+  judged_at : (k : PartKey) → is_row_end words ≡ false → is_keyed (name_of k) words ≡ true → Judges (PartShape parts words) (HasRowsNumbers words) (IsPart parts words) (by_key (stated_by parts) (Some k) words)
   judged_at Coordinate other keyed = judges_map (ShapeAt Coordinate parts words) (HasNumber (word_at words 2)) (IsNumber (word_at words 2)) (PartShape parts words) (HasRowsNumbers words) (IsPart parts words) coordinate
       (once_by number_of (is_some (latest coordinate_in parts)) words) (λ s. (coordinate (pos 0), s)) (shape_at Coordinate other keyed) (λ s n. numbers_of Coordinate keyed n) (λ s n. numbers_at Coordinate keyed n) (λ v s is. (s, is))
-      (once_judged (codes "coordinate") coordinate_in parts number_of IsNumber tells_number words keyed)
+      (once_judged (codes "coordinate") coordinate_in parts number_of IsNumber spells_number words keyed)
   judged_at Height other keyed = judges_map (ShapeAt Height parts words) (HasPositive (word_at words 2)) (IsPositive (word_at words 2)) (PartShape parts words) (HasRowsNumbers words) (IsPart parts words) height
       (once_by positive_of (is_some (latest height_in parts)) words) (λ s. (height (pos 0), s)) (shape_at Height other keyed) (λ s n. numbers_of Height keyed n) (λ s n. numbers_at Height keyed n) (λ v s is. (s, is))
-      (once_judged (codes "height") height_in parts positive_of IsPositive tells_positive words keyed)
+      (once_judged (codes "height") height_in parts positive_of IsPositive spells_positive words keyed)
   judged_at SiteWidth other keyed = judges_map (ShapeAt SiteWidth parts words) (HasPositive (word_at words 2)) (IsPositive (word_at words 2)) (PartShape parts words) (HasRowsNumbers words) (IsPart parts words) site_width
       (once_by positive_of (is_some (latest width_in parts)) words) (λ s. (site_width (pos 0), s)) (shape_at SiteWidth other keyed) (λ s n. numbers_of SiteWidth keyed n) (λ s n. numbers_at SiteWidth keyed n) (λ v s is. (s, is))
-      (once_judged (codes "sitewidth") width_in parts positive_of IsPositive tells_positive words keyed)
+      (once_judged (codes "sitewidth") width_in parts positive_of IsPositive spells_positive words keyed)
   judged_at SiteSpacing other keyed = judges_map (ShapeAt SiteSpacing parts words) (HasPositive (word_at words 2)) (IsPositive (word_at words 2)) (PartShape parts words) (HasRowsNumbers words) (IsPart parts words) site_spacing
       (once_by positive_of (is_some (latest spacing_in parts)) words) (λ s. (site_spacing (pos 0), s)) (shape_at SiteSpacing other keyed) (λ s n. numbers_of SiteSpacing keyed n) (λ s n. numbers_at SiteSpacing keyed n) (λ v s is. (s, is))
-      (once_judged (codes "sitespacing") spacing_in parts positive_of IsPositive tells_positive words keyed)
+      (once_judged (codes "sitespacing") spacing_in parts positive_of IsPositive spells_positive words keyed)
   judged_at SiteOrient other keyed = once_keyed_judged (codes "siteorient") orient_in site_orient keyed (λ s. (s, tt)) (λ s. numbers_of SiteOrient keyed tt) (shape_at SiteOrient other keyed)
   judged_at SiteSymmetry other keyed = once_keyed_judged (codes "sitesymmetry") symmetry_in site_symmetry keyed (λ s. (s, tt)) (λ s. numbers_of SiteSymmetry keyed tt) (shape_at SiteSymmetry other keyed)
   judged_at Subrow other keyed = judges_map (IsSubrowShape words) (HasSubrow words) (IsSubrow words) (PartShape parts words) (HasRowsNumbers words) (IsPart parts words) subrow
       (subrow_of words) (λ s. (subrow (record { x = pos 0; sites = 0 }), s)) (shape_at Subrow other keyed) (λ s n. numbers_of Subrow keyed n) (λ s n. numbers_at Subrow keyed n) (λ entry s is. (s, is))
       (subrow_judged words keyed)
 
-  no_shape : is_row_end words ≡ false → ((k : PartKey) → is_keyed (name_of k) words ≡ false) → (told : RowPart) → IsPartShape parts words told → ⊥
+  no_shape : is_row_end words ≡ false → ((k : PartKey) → is_keyed (name_of k) words ≡ false) → (stated : RowPart) → IsPartShape parts words stated → ⊥
   no_shape other none (coordinate y) shape = let e = shape.keyed in let f = none Coordinate in cc
   no_shape other none (height h) shape = let e = shape.keyed in let f = none Height in cc
   no_shape other none (site_width w) shape = let e = shape.keyed in let f = none SiteWidth in cc
@@ -341,8 +343,8 @@ module _ (parts : List RowPart) (words : List (List ℕ)) where
   no_shape other none (subrow entry) shape = let e = shape.keyed in let f = none Subrow in cc
   no_shape other none ended shape = let e = shape.0 in cc
 
-  judged_inner : is_row_end words ≡ false → Judges (PartShape parts words) (HasRowsNumbers words) (IsPart parts words) (inner_of (told_by parts) words)
-  judged_inner other = key_cases words (λ k. Judges (PartShape parts words) (HasRowsNumbers words) (IsPart parts words) (by_key (told_by parts) k words))
+  judged_inner : is_row_end words ≡ false → Judges (PartShape parts words) (HasRowsNumbers words) (IsPart parts words) (inner_of (stated_by parts) words)
+  judged_inner other = key_cases words (λ k. Judges (PartShape parts words) (HasRowsNumbers words) (IsPart parts words) (by_key (stated_by parts) k words))
       (λ k keyed. judged_at k other keyed) (λ none s. no_shape other none s.0 s.1)
 
 -- a block at its end
@@ -369,11 +371,11 @@ closed_fault (Some y) (Some h) None subrows kind is = cc
 closed_fault (Some y) (Some h) (Some p) subrows kind is = cc
 
 module _ (parts : List RowPart) (words : List (List ℕ)) where
-  whole_block : (row : RowEntry) → row_of (told_by parts) ≡ Ok row → IsWholeBlock parts
+  whole_block : (row : RowEntry) → row_of (stated_by parts) ≡ Ok row → IsWholeBlock parts
   whole_block row is = let has = whole_parts (latest coordinate_in parts) (latest height_in parts) (latest spacing_in parts) (latest width_in parts) _ row is in
       record { coordinate = has.0; height = has.1; pitch = has.2 }
 
-  shape_ended : is_row_end words ≡ true → (told : RowPart) → IsPartShape parts words told → IsWholeBlock parts
+  shape_ended : is_row_end words ≡ true → (stated : RowPart) → IsPartShape parts words stated → IsWholeBlock parts
   shape_ended is (coordinate y) shape = let e = shape.keyed in let f = end_keyed (codes "coordinate") words is in cc
   shape_ended is (height h) shape = let e = shape.keyed in let f = end_keyed (codes "height") words is in cc
   shape_ended is (site_width w) shape = let e = shape.keyed in let f = end_keyed (codes "sitewidth") words is in cc
@@ -383,35 +385,35 @@ module _ (parts : List RowPart) (words : List (List ℕ)) where
   shape_ended is (subrow entry) shape = let e = shape.keyed in let f = end_keyed (codes "subroworigin") words is in cc
   shape_ended is ended shape = shape.1
 
-  judged_end : is_row_end words ≡ true → (r : Result RowEntry TextKind) → row_of (told_by parts) ≡ r → Judges (PartShape parts words) (HasRowsNumbers words) (IsPart parts words) (r >>= λ row. Ok ended)
+  judged_end : is_row_end words ≡ true → (r : Result RowEntry TextKind) → row_of (stated_by parts) ≡ r → Judges (PartShape parts words) (HasRowsNumbers words) (IsPart parts words) (r >>= λ row. Ok ended)
   judged_end is (Ok row) makes = let whole = whole_block row makes in ((ended, (is, whole)), no_numbers words (λ key. end_keyed key words is), ((is, whole), tt))
   judged_end is (Err BadLine) makes = λ s. let whole = shape_ended is s.0 s.1 in
       whole_row (latest coordinate_in parts) (latest height_in parts) (latest spacing_in parts) (latest width_in parts) _ BadLine whole.coordinate whole.height whole.pitch makes
   judged_end is (Err BadHeader) makes = let e = closed_fault _ _ _ _ BadHeader makes in cc
   judged_end is (Err BadNumber) makes = let e = closed_fault _ _ _ _ BadNumber makes in cc
-  judged_end is (Err (CountMismatch told found)) makes = let e = closed_fault _ _ _ _ (CountMismatch told found) makes in cc
+  judged_end is (Err (CountMismatch stated found)) makes = let e = closed_fault _ _ _ _ (CountMismatch stated found) makes in cc
 
-  judged_part : Judges (PartShape parts words) (HasRowsNumbers words) (IsPart parts words) (part_of (told_by parts) words)
-  judged_part = cond_both (is_row_end words) (row_of (told_by parts) >>= λ row. Ok ended) (inner_of (told_by parts) words) (Judges (PartShape parts words) (HasRowsNumbers words) (IsPart parts words))
-      (λ is. judged_end is (row_of (told_by parts)) refl) (λ other. judged_inner parts words other)
+  judged_part : Judges (PartShape parts words) (HasRowsNumbers words) (IsPart parts words) (part_of (stated_by parts) words)
+  judged_part = cond_both (is_row_end words) (row_of (stated_by parts) >>= λ row. Ok ended) (inner_of (stated_by parts) words) (Judges (PartShape parts words) (HasRowsNumbers words) (IsPart parts words))
+      (λ is. judged_end is (row_of (stated_by parts)) refl) (λ other. judged_inner parts words other)
 
-  part_back : (told : RowPart) → IsPartShape parts words told → ArePartNumbers words told → part_of (told_by parts) words ≡ Ok told
-  part_back (coordinate y) shape is = part_inner (told_by parts) words (keyed_end (codes "coordinate") words shape.keyed) ∙ (ap (λ k. by_key (told_by parts) k words) (key_at words Coordinate shape.keyed)
-      ∙ ap (λ r. r >>= λ v. Ok (coordinate v)) (once_back (codes "coordinate") coordinate_in parts number_of IsNumber tells_number words y shape is))
-  part_back (height h) shape is = part_inner (told_by parts) words (keyed_end (codes "height") words shape.keyed) ∙ (ap (λ k. by_key (told_by parts) k words) (key_at words Height shape.keyed)
-      ∙ ap (λ r. r >>= λ v. Ok (height v)) (once_back (codes "height") height_in parts positive_of IsPositive tells_positive words h shape is))
-  part_back (site_width w) shape is = part_inner (told_by parts) words (keyed_end (codes "sitewidth") words shape.keyed) ∙ (ap (λ k. by_key (told_by parts) k words) (key_at words SiteWidth shape.keyed)
-      ∙ ap (λ r. r >>= λ v. Ok (site_width v)) (once_back (codes "sitewidth") width_in parts positive_of IsPositive tells_positive words w shape is))
-  part_back (site_spacing s) shape is = part_inner (told_by parts) words (keyed_end (codes "sitespacing") words shape.keyed) ∙ (ap (λ k. by_key (told_by parts) k words) (key_at words SiteSpacing shape.keyed)
-      ∙ ap (λ r. r >>= λ v. Ok (site_spacing v)) (once_back (codes "sitespacing") spacing_in parts positive_of IsPositive tells_positive words s shape is))
-  part_back site_orient shape is = part_inner (told_by parts) words (keyed_end (codes "siteorient") words shape.keyed) ∙ (ap (λ k. by_key (told_by parts) k words) (key_at words SiteOrient shape.keyed)
+  part_back : (stated : RowPart) → IsPartShape parts words stated → ArePartNumbers words stated → part_of (stated_by parts) words ≡ Ok stated
+  part_back (coordinate y) shape is = part_inner (stated_by parts) words (keyed_end (codes "coordinate") words shape.keyed) ∙ (ap (λ k. by_key (stated_by parts) k words) (key_at words Coordinate shape.keyed)
+      ∙ ap (λ r. r >>= λ v. Ok (coordinate v)) (once_back (codes "coordinate") coordinate_in parts number_of IsNumber spells_number words y shape is))
+  part_back (height h) shape is = part_inner (stated_by parts) words (keyed_end (codes "height") words shape.keyed) ∙ (ap (λ k. by_key (stated_by parts) k words) (key_at words Height shape.keyed)
+      ∙ ap (λ r. r >>= λ v. Ok (height v)) (once_back (codes "height") height_in parts positive_of IsPositive spells_positive words h shape is))
+  part_back (site_width w) shape is = part_inner (stated_by parts) words (keyed_end (codes "sitewidth") words shape.keyed) ∙ (ap (λ k. by_key (stated_by parts) k words) (key_at words SiteWidth shape.keyed)
+      ∙ ap (λ r. r >>= λ v. Ok (site_width v)) (once_back (codes "sitewidth") width_in parts positive_of IsPositive spells_positive words w shape is))
+  part_back (site_spacing s) shape is = part_inner (stated_by parts) words (keyed_end (codes "sitespacing") words shape.keyed) ∙ (ap (λ k. by_key (stated_by parts) k words) (key_at words SiteSpacing shape.keyed)
+      ∙ ap (λ r. r >>= λ v. Ok (site_spacing v)) (once_back (codes "sitespacing") spacing_in parts positive_of IsPositive spells_positive words s shape is))
+  part_back site_orient shape is = part_inner (stated_by parts) words (keyed_end (codes "siteorient") words shape.keyed) ∙ (ap (λ k. by_key (stated_by parts) k words) (key_at words SiteOrient shape.keyed)
       ∙ cond-false _ _ _ (ap is_some shape.once))
-  part_back site_symmetry shape is = part_inner (told_by parts) words (keyed_end (codes "sitesymmetry") words shape.keyed) ∙ (ap (λ k. by_key (told_by parts) k words) (key_at words SiteSymmetry shape.keyed)
+  part_back site_symmetry shape is = part_inner (stated_by parts) words (keyed_end (codes "sitesymmetry") words shape.keyed) ∙ (ap (λ k. by_key (stated_by parts) k words) (key_at words SiteSymmetry shape.keyed)
       ∙ cond-false _ _ _ (ap is_some shape.once))
-  part_back (subrow entry) shape is = part_inner (told_by parts) words (keyed_end (codes "subroworigin") words shape.keyed) ∙ (ap (λ k. by_key (told_by parts) k words) (key_at words Subrow shape.keyed)
+  part_back (subrow entry) shape is = part_inner (stated_by parts) words (keyed_end (codes "subroworigin") words shape.keyed) ∙ (ap (λ k. by_key (stated_by parts) k words) (key_at words Subrow shape.keyed)
       ∙ ap (λ r. r >>= λ v. Ok (subrow v)) (subrow_back words entry shape is))
-  part_back ended shape is = at_end (told_by parts) words shape.0 ∙ ends (row_of (told_by parts)) refl where
-    ends : (r : Result RowEntry TextKind) → row_of (told_by parts) ≡ r → (r >>= λ row. Ok ended) ≡ Ok ended
+  part_back ended shape is = at_end (stated_by parts) words shape.0 ∙ ends (row_of (stated_by parts)) refl where
+    ends : (r : Result RowEntry TextKind) → row_of (stated_by parts) ≡ r → (r >>= λ row. Ok ended) ≡ Ok ended
     ends (Ok row) makes = refl
     ends (Err kind) makes = absurd (whole_row (latest coordinate_in parts) (latest height_in parts) (latest spacing_in parts) (latest width_in parts) _ kind shape.1.coordinate shape.1.height shape.1.pitch makes)
 
@@ -421,9 +423,9 @@ module _ (item : RowItem) (before : List RowItem) (line : NumberedLine) where
   abbrev Judged : Result RowItem TextKind → Type 0
   Judged r = Judges (HasRowsShape (item ∷ before) line.words) (HasRowsNumbers line.words) (IsRowsItem (item ∷ before) line) r
 
-  judged_within : (parts : List RowPart) → open_block (item ∷ before) ≡ Some parts → Judged (part_of (told_by parts) line.words >>= λ p. Ok (part p))
+  judged_within : (parts : List RowPart) → open_block (item ∷ before) ≡ Some parts → Judged (part_of (stated_by parts) line.words >>= λ p. Ok (part p))
   judged_within parts is = judges_map (PartShape parts line.words) (HasRowsNumbers line.words) (IsPart parts line.words) (HasRowsShape (item ∷ before) line.words) (HasRowsNumbers line.words) (IsRowsItem (item ∷ before) line) part
-      (part_of (told_by parts) line.words) (λ s. inr (parts, s.0, is, s.1)) back (λ s n. n) (λ s n. n)
+      (part_of (stated_by parts) line.words) (λ s. inr (parts, s.0, is, s.1)) back (λ s n. n) (λ s n. n)
       (λ p s is_part. (λ e. cc, record { parts = parts; within = is; shape = is_part.0; numbers = is_part.1 })) (judged_part parts line.words) where
         back : HasRowsShape (item ∷ before) line.words → PartShape parts line.words
         back (inl outside) = let e = sym is ∙ outside.0 in cc
@@ -452,79 +454,79 @@ module _ (item : RowItem) (before : List RowItem) (line : NumberedLine) where
     at None is = judged_outside is
     at (Some parts) is = judged_within parts is
 
-item_back : (before : List RowItem) (line : NumberedLine) (told : RowItem) → IsRowsItem before line told → row_meaning before line ≡ Ok told
+item_back : (before : List RowItem) (line : NumberedLine) (stated : RowItem) → IsRowsItem before line stated → row_meaning before line ≡ Ok stated
 item_back [] line header is = cond-true (is_header (codes "scl") line.words) (Ok header) (Err BadHeader) is.1
 item_back [] line (total n) is = absurd (is.0 refl)
 item_back [] line begun is = absurd (is.0 refl)
-item_back [] line (part told) is = absurd (is.0 refl)
+item_back [] line (part stated) is = absurd (is.0 refl)
 item_back (item ∷ before) line header is = let e = is.0 in cc
 item_back (item ∷ before) line (total n) is = ap (λ o. within_or_outside o (is_some (latest total_in (item ∷ before))) line.words) is.1 ∙ (cond-true _ _ _ is.2.keyed
     ∙ ap (λ r. r >>= λ m. Ok (total m)) (count_back (codes "numrows") total_in (item ∷ before) line.words n is.2 is.3))
 item_back (item ∷ before) line begun is = ap (λ o. within_or_outside o (is_some (latest total_in (item ∷ before))) line.words) is.1 ∙ (cond-false _ _ _ (start_keyed (codes "numrows") line.words is.2) ∙ cond-true _ _ _ is.2)
-item_back (item ∷ before) line (part told) is = ap (λ o. within_or_outside o (is_some (latest total_in (item ∷ before))) line.words) is.1.within
-    ∙ ap (λ r. r >>= λ p. Ok (part p)) (part_back is.1.parts line.words told is.1.shape is.1.numbers)
+item_back (item ∷ before) line (part stated) is = ap (λ o. within_or_outside o (is_some (latest total_in (item ∷ before))) line.words) is.1.within
+    ∙ ap (λ r. r >>= λ p. Ok (part p)) (part_back is.1.parts line.words stated is.1.shape is.1.numbers)
 
 -- The whole file
 
-rows_told_is : (told : Option ℕ) (rows : List RowEntry) → rows_told told rows ≡ count_told told rows
-rows_told_is None rows = refl
-rows_told_is (Some n) rows = refl
+rows_stated_is : (stated : Option ℕ) (rows : List RowEntry) → rows_stated stated rows ≡ count_stated stated rows
+rows_stated_is None rows = refl
+rows_stated_is (Some n) rows = refl
 
 abbrev rows_in : List RowItem → List RowEntry
 rows_in items = map entry_of_row (blocks_in items)
 
 abbrev ending_if : Bool → List RowItem → Result (List RowEntry) TextKind
-ending_if goes_on items = if goes_on then Err BadLine else rows_told (latest total_in items) (rows_in items)
+ending_if goes_on items = if goes_on then Err BadLine else rows_stated (latest total_in items) (rows_in items)
 
 file : (items : List RowItem) (rows : List RowEntry) → row_ending items ≡ Ok rows → IsRowsFile items rows
 file [] rows ends = cc
 file (item ∷ items) rows ends = at (open_block (item ∷ items)) refl ends where
   at : (o : Option (List RowPart)) → open_block (item ∷ items) ≡ o → ending_if (is_some o) (item ∷ items) ≡ Ok rows → IsRowsFile (item ∷ items) rows
   at (Some parts) is ends = cc
-  at None is ends = let told = told_file (latest total_in (item ∷ items)) (rows_in (item ∷ items)) rows (sym (rows_told_is (latest total_in (item ∷ items)) (rows_in (item ∷ items))) ∙ ends) in
-      record { blocks = told.0; ended = is; count = told.1 }
+  at None is ends = let stated = stated_file (latest total_in (item ∷ items)) (rows_in (item ∷ items)) rows (sym (rows_stated_is (latest total_in (item ∷ items)) (rows_in (item ∷ items))) ∙ ends) in
+      record { blocks = stated.0; ended = is; count = stated.1 }
 
 file_back : (items : List RowItem) (rows : List RowEntry) → IsRowsFile items rows → row_ending items ≡ Ok rows
 file_back [] rows is = let e = is.count in cc
-file_back (item ∷ items) rows is = ap (λ o. ending_if (is_some o) (item ∷ items)) is.ended ∙ (rows_told_is (latest total_in (item ∷ items)) (rows_in (item ∷ items))
-    ∙ told_file_back (latest total_in (item ∷ items)) (rows_in (item ∷ items)) rows is.blocks is.count)
+file_back (item ∷ items) rows is = ap (λ o. ending_if (is_some o) (item ∷ items)) is.ended ∙ (rows_stated_is (latest total_in (item ∷ items)) (rows_in (item ∷ items))
+    ∙ stated_file_back (latest total_in (item ∷ items)) (rows_in (item ∷ items)) rows is.blocks is.count)
 
 end : (items : List RowItem) (kind : TextKind) → row_ending items ≡ Err kind → IsRowsEndFault items kind
 end [] BadHeader ends = refl
 end [] BadLine ends = cc
 end [] BadNumber ends = cc
-end [] (CountMismatch told found) ends = cc
+end [] (CountMismatch stated found) ends = cc
 end (item ∷ items) kind ends = at (open_block (item ∷ items)) refl ends where
   opened : (kind : TextKind) → (open_block (item ∷ items) ≢ None) → ◌≡◌ {A = Result (List RowEntry) TextKind} (Err BadLine) (Err kind) → IsRowsEndFault (item ∷ items) kind
   opened BadHeader goes_on e = cc
   opened BadLine goes_on e = (λ e. cc, inl goes_on)
   opened BadNumber goes_on e = cc
-  opened (CountMismatch told found) goes_on e = cc
+  opened (CountMismatch stated found) goes_on e = cc
 
-  counted : (kind : TextKind) → open_block (item ∷ items) ≡ None → ToldFault (latest total_in (item ∷ items)) (rows_in (item ∷ items)) kind → IsRowsEndFault (item ∷ items) kind
+  counted : (kind : TextKind) → open_block (item ∷ items) ≡ None → StatedFault (latest total_in (item ∷ items)) (rows_in (item ∷ items)) kind → IsRowsEndFault (item ∷ items) kind
   counted BadHeader is named = absurd named
   counted BadLine is named = (λ e. cc, inr named)
   counted BadNumber is named = absurd named
-  counted (CountMismatch told found) is named = record { ended = is; count = named.0; rows = named.1 ∙ length-map (blocks_in (item ∷ items)) entry_of_row; differ = named.2 }
+  counted (CountMismatch stated found) is named = record { ended = is; count = named.0; rows = named.1 ∙ length-map (blocks_in (item ∷ items)) entry_of_row; differ = named.2 }
 
   at : (o : Option (List RowPart)) → open_block (item ∷ items) ≡ o → ending_if (is_some o) (item ∷ items) ≡ Err kind → IsRowsEndFault (item ∷ items) kind
   at (Some parts) is ends = opened kind (λ e. let both = sym is ∙ e in cc) ends
-  at None is ends = counted kind is (told_fault (latest total_in (item ∷ items)) (rows_in (item ∷ items)) kind (sym (rows_told_is (latest total_in (item ∷ items)) (rows_in (item ∷ items))) ∙ ends))
+  at None is ends = counted kind is (stated_fault (latest total_in (item ∷ items)) (rows_in (item ∷ items)) kind (sym (rows_stated_is (latest total_in (item ∷ items)) (rows_in (item ∷ items))) ∙ ends))
 
 end_back : (items : List RowItem) (kind : TextKind) → IsRowsEndFault items kind → row_ending items ≡ Err kind
 end_back [] BadHeader named = refl
 end_back [] BadLine named = absurd (named.0 refl)
 end_back [] BadNumber named = absurd named
-end_back [] (CountMismatch told found) named = let e = named.count in cc
+end_back [] (CountMismatch stated found) named = let e = named.count in cc
 end_back (item ∷ items) BadHeader named = cc
 end_back (item ∷ items) BadNumber named = absurd named
-end_back (item ∷ items) (CountMismatch told found) named = ap (λ o. ending_if (is_some o) (item ∷ items)) named.ended ∙ (rows_told_is (latest total_in (item ∷ items)) (rows_in (item ∷ items))
-    ∙ told_fault_back (latest total_in (item ∷ items)) (rows_in (item ∷ items)) (CountMismatch told found) (named.count, named.rows ∙ sym (length-map (blocks_in (item ∷ items)) entry_of_row), named.differ))
+end_back (item ∷ items) (CountMismatch stated found) named = ap (λ o. ending_if (is_some o) (item ∷ items)) named.ended ∙ (rows_stated_is (latest total_in (item ∷ items)) (rows_in (item ∷ items))
+    ∙ stated_fault_back (latest total_in (item ∷ items)) (rows_in (item ∷ items)) (CountMismatch stated found) (named.count, named.rows ∙ sym (length-map (blocks_in (item ∷ items)) entry_of_row), named.differ))
 end_back (item ∷ items) BadLine named = at (open_block (item ∷ items)) refl named.1 where
   at : (o : Option (List RowPart)) → open_block (item ∷ items) ≡ o → (open_block (item ∷ items) ≢ None) ⊎ (latest total_in (item ∷ items) ≡ None) → ending_if (is_some o) (item ∷ items) ≡ Err BadLine
   at (Some parts) is which = refl
   at None is (inl goes_on) = absurd (goes_on is)
-  at None is (inr none) = rows_told_is (latest total_in (item ∷ items)) (rows_in (item ∷ items)) ∙ told_fault_back (latest total_in (item ∷ items)) (rows_in (item ∷ items)) BadLine none
+  at None is (inr none) = rows_stated_is (latest total_in (item ∷ items)) (rows_in (item ∷ items)) ∙ stated_fault_back (latest total_in (item ∷ items)) (rows_in (item ∷ items)) BadLine none
 
 pub rows_decided : Decides row_form rows_grammar
 rows_decided = record {

@@ -3,29 +3,29 @@ use Rattle.std.proofs.Common.{◌≡◌, ℕ, ◌<◌, ◌≤◌, Bool, true, fa
 use Rattle.book_files.specs.declared.fault.TextKind.{TextKind}
 use Rattle.book_files.specs.declared.fault.TextKind.TheVariants.{BadLine}
 use Rattle.book_files.specs.Entries.{SubrowEntry}
-use Rattle.book_files.specs.Rows.{once_by, is_subrow, subrow_at, subrow_of}
+use Rattle.book_files.specs.Forms.Rows.{once_by, is_subrow, subrow_at, subrow_of}
 
 module _ {X : Type 0} (bytes : X → List ℕ) where
-  pub once_by-three : {A : Type 0} (P : Result A TextKind → Type 0) (value : List ℕ → Result A TextKind) (told : Bool) (words : List X) (d : X) → 3 ≤ length words → length words < 4
-      → told ≡ false → P (value (bytes (slice_index_or words 2 d))) → P (once_by value told (map bytes words))
-  once_by-three P value told [] d least most none is = absurd (omega arith)
-  once_by-three P value told (a ∷ []) d least most none is = absurd (omega arith)
-  once_by-three P value told (a ∷ b ∷ []) d least most none is = absurd (omega arith)
-  once_by-three P value told (a ∷ b ∷ c ∷ []) d least most none is = rw none is
-  once_by-three P value told (a ∷ b ∷ c ∷ e ∷ words) d least most none is = absurd (omega arith)
+  pub once_by-three : {A : Type 0} (P : Result A TextKind → Type 0) (value : List ℕ → Result A TextKind) (stood : Bool) (words : List X) (d : X) → 3 ≤ length words → length words < 4
+      → stood ≡ false → P (value (bytes (slice_index_or words 2 d))) → P (once_by value stood (map bytes words))
+  once_by-three P value stood [] d least most none is = absurd (omega arith)
+  once_by-three P value stood (a ∷ []) d least most none is = absurd (omega arith)
+  once_by-three P value stood (a ∷ b ∷ []) d least most none is = absurd (omega arith)
+  once_by-three P value stood (a ∷ b ∷ c ∷ []) d least most none is = rw none is
+  once_by-three P value stood (a ∷ b ∷ c ∷ e ∷ words) d least most none is = absurd (omega arith)
 
-  pub once_by-short : {A : Type 0} (value : List ℕ → Result A TextKind) (told : Bool) (words : List X) → length words < 3 → once_by value told (map bytes words) ≡ Err BadLine
-  once_by-short value told [] short = refl
-  once_by-short value told (a ∷ []) short = refl
-  once_by-short value told (a ∷ b ∷ []) short = refl
-  once_by-short value told (a ∷ b ∷ c ∷ words) short = absurd (omega arith)
+  pub once_by-short : {A : Type 0} (value : List ℕ → Result A TextKind) (stood : Bool) (words : List X) → length words < 3 → once_by value stood (map bytes words) ≡ Err BadLine
+  once_by-short value stood [] short = refl
+  once_by-short value stood (a ∷ []) short = refl
+  once_by-short value stood (a ∷ b ∷ []) short = refl
+  once_by-short value stood (a ∷ b ∷ c ∷ words) short = absurd (omega arith)
 
-  pub once_by-long : {A : Type 0} (value : List ℕ → Result A TextKind) (told : Bool) (words : List X) → 4 ≤ length words → once_by value told (map bytes words) ≡ Err BadLine
-  once_by-long value told [] long = absurd (omega arith)
-  once_by-long value told (a ∷ []) long = absurd (omega arith)
-  once_by-long value told (a ∷ b ∷ []) long = absurd (omega arith)
-  once_by-long value told (a ∷ b ∷ c ∷ []) long = absurd (omega arith)
-  once_by-long value told (a ∷ b ∷ c ∷ d ∷ words) long = refl
+  pub once_by-long : {A : Type 0} (value : List ℕ → Result A TextKind) (stood : Bool) (words : List X) → 4 ≤ length words → once_by value stood (map bytes words) ≡ Err BadLine
+  once_by-long value stood [] long = absurd (omega arith)
+  once_by-long value stood (a ∷ []) long = absurd (omega arith)
+  once_by-long value stood (a ∷ b ∷ []) long = absurd (omega arith)
+  once_by-long value stood (a ∷ b ∷ c ∷ []) long = absurd (omega arith)
+  once_by-long value stood (a ∷ b ∷ c ∷ d ∷ words) long = refl
 
   pub subrow_of-six : (P : Result SubrowEntry TextKind → Type 0) (words : List X) (d : X) → 6 ≤ length words → length words < 7
       → is_subrow (bytes (slice_index_or words 3 d)) (bytes (slice_index_or words 4 d)) ≡ true

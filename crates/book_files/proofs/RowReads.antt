@@ -9,16 +9,17 @@ use Rattle.book_files.specs.declared.fault.TextKind.TheVariants.{BadHeader, BadL
 use Rattle.book_files.specs.declared.records.RowBlock.{RowBlock}
 use Rattle.book_files.specs.declared.row_block.BlockSoFar.{BlockSoFar}
 use Rattle.book_files.specs.declared.rows.RowsSoFar.{RowsSoFar}
-use Rattle.book_files.specs.Form.{Reads, FirstFault}
+use Rattle.book_files.proofs.FormTexts.{Reads, FirstFault}
 use Rattle.book_files.specs.Words.{latest}
 use Rattle.book_files.specs.Groups.{Group}
 use Rattle.book_files.specs.Entries.{RowEntry}
 use Rattle.book_files.specs.Blocks.{row_entry, row_entries}
 use Rattle.book_files.specs.Ranges.{subrow_count}
-use Rattle.book_files.specs.Rows.{RowPart, RowItem, total_in, begun_in, part_in, subrow_in, open_block, blocks_in, entry_of_row, rows_told, row_ending, row_form}
-use Rattle.book_files.specs.Progress.{StandsFor}
-use Rattle.book_files.specs.SoFar.{has_items}
-use Rattle.book_files.specs.RowProgress.{AreBlocks, IsRowsSoFar, total_fault, rows_end_fault}
+use Rattle.book_files.specs.Rows.{RowPart, RowItem, total_in, begun_in, part_in, subrow_in, open_block, blocks_in, entry_of_row}
+use Rattle.book_files.specs.Forms.Rows.{rows_stated, row_ending, row_form}
+use Rattle.book_files.specs.Forms.Progress.{StandsFor}
+use Rattle.book_files.specs.Forms.SoFar.{has_items}
+use Rattle.book_files.specs.Forms.RowProgress.{AreBlocks, IsRowsSoFar, total_fault, rows_end_fault}
 use Rattle.book_files.proofs.FewRecords.{length-mean, length-content_of-le, length-filter_map-le}
 use Rattle.book_files.proofs.GroupSteps.{groups-few}
 use Rattle.book_files.proofs.RowSteps.{open_is}
@@ -28,21 +29,21 @@ abbrev unless_fault : Option TextKind → List RowEntry → Result (List RowEntr
 unless_fault None rows = Ok rows
 unless_fault (Some kind) rows = Err kind
 
-told_is : (told : Option ℕ) (blocks : List RowBlock) → rows_told told (row_entries blocks) ≡ unless_fault (total_fault told blocks) (row_entries blocks)
-told_is None blocks = refl
-told_is (Some n) blocks = ap (λ m. if n == m then Ok (row_entries blocks) else Err (CountMismatch n m)) (length-map blocks row_entry) ∙ equal (n == length blocks) where
+stated_is : (stated : Option ℕ) (blocks : List RowBlock) → rows_stated stated (row_entries blocks) ≡ unless_fault (total_fault stated blocks) (row_entries blocks)
+stated_is None blocks = refl
+stated_is (Some n) blocks = ap (λ m. if n == m then Ok (row_entries blocks) else Err (CountMismatch n m)) (length-map blocks row_entry) ∙ equal (n == length blocks) where
   equal : (b : Bool) → ◌≡◌ {A = Result (List RowEntry) TextKind} (if b then Ok (row_entries blocks) else Err (CountMismatch n (length blocks)))
       (unless_fault (if b then None else Some (CountMismatch n (length blocks))) (row_entries blocks))
   equal true = refl
   equal false = refl
 
 -- what all items make, by what the reader has at the end
-ending_by : (items : List RowItem) (begun : Bool) (current : Option BlockSoFar) (told : Option ℕ) (blocks : List RowBlock) → begun ≡ has_items items → told ≡ latest total_in items → AreBlocks current (blocks_in items) blocks
-    → row_ending items ≡ unless_fault (if begun then (if is_some current then Some BadLine else total_fault told blocks) else Some BadHeader) (row_entries blocks)
-ending_by [] begun current told blocks is_begun is_told are = rw is_begun refl
-ending_by (item ∷ items) begun (Some block) told blocks is_begun is_told are = rw is_begun (ap (λ o. if is_some o then Err BadLine else rows_told (latest total_in (item ∷ items)) (map entry_of_row (blocks_in (item ∷ items)))) (open_is (item ∷ items) block blocks are))
-ending_by (item ∷ items) begun None told blocks is_begun is_told are = rw is_begun (ap (λ o. if is_some o then Err BadLine else rows_told (latest total_in (item ∷ items)) (map entry_of_row (blocks_in (item ∷ items)))) are.last
-    ∙ (ap (rows_told (latest total_in (item ∷ items))) (sym are.ended) ∙ (ap (λ t. rows_told t (row_entries blocks)) (sym is_told) ∙ told_is told blocks)))
+ending_by : (items : List RowItem) (begun : Bool) (current : Option BlockSoFar) (stated : Option ℕ) (blocks : List RowBlock) → begun ≡ has_items items → stated ≡ latest total_in items → AreBlocks current (blocks_in items) blocks
+    → row_ending items ≡ unless_fault (if begun then (if is_some current then Some BadLine else total_fault stated blocks) else Some BadHeader) (row_entries blocks)
+ending_by [] begun current stated blocks is_begun is_stated are = rw is_begun refl
+ending_by (item ∷ items) begun (Some block) stated blocks is_begun is_stated are = rw is_begun (ap (λ o. if is_some o then Err BadLine else rows_stated (latest total_in (item ∷ items)) (map entry_of_row (blocks_in (item ∷ items)))) (open_is (item ∷ items) block blocks are))
+ending_by (item ∷ items) begun None stated blocks is_begun is_stated are = rw is_begun (ap (λ o. if is_some o then Err BadLine else rows_stated (latest total_in (item ∷ items)) (map entry_of_row (blocks_in (item ∷ items)))) are.last
+    ∙ (ap (rows_stated (latest total_in (item ∷ items))) (sym are.ended) ∙ (ap (λ t. rows_stated t (row_entries blocks)) (sym is_stated) ∙ stated_is stated blocks)))
 
 ending_is : (items : List RowItem) (so_far : RowsSoFar) → IsRowsSoFar items so_far → row_ending items ≡ unless_fault (rows_end_fault so_far) (row_entries so_far.blocks.items)
 ending_is items so_far is = ending_by items so_far.begun so_far.current so_far.total so_far.blocks.items is.begun is.total is.blocks
@@ -84,8 +85,8 @@ ending_rows (item ∷ items) rows ends = at (is_some (open_block (item ∷ items
   equal true n e = cc
   equal false n e = cc
 
-  at : (goes_on : Bool) (told : Option ℕ) → ◌≡◌ {A = Result (List RowEntry) TextKind} (if goes_on then Err BadLine else rows_told told found) (Ok rows) → rows ≡ found
-  at true told e = cc
+  at : (goes_on : Bool) (stated : Option ℕ) → ◌≡◌ {A = Result (List RowEntry) TextKind} (if goes_on then Err BadLine else rows_stated stated found) (Ok rows) → rows ≡ found
+  at true stated e = cc
   at false None e = cc
   at false (Some n) e = equal (n == length found) n e
 

@@ -12,19 +12,21 @@ use Rattle.book_files.specs.declared.fault.LineError.TheVariants.{Kind, Memory}
 use Rattle.book_files.specs.declared.records.RowBlock.{RowBlock}
 use Rattle.book_files.specs.declared.row_block.BlockSoFar.{BlockSoFar}
 use Rattle.book_files.specs.declared.rows.RowsSoFar.{RowsSoFar}
-use Rattle.book_files.specs.Words.{◌>>=◌, latest, last_of, is_header, is_keyed, count_of}
+use Rattle.book_files.specs.Words.{latest, last_of, is_header, is_keyed}
+use Rattle.book_files.specs.Forms.Words.{◌>>=◌, count_of}
 use Rattle.book_files.specs.Groups.{Group}
 use Rattle.book_files.specs.Entries.{SubrowEntry, RowEntry}
 use Rattle.book_files.specs.Blocks.{row_entry, row_entries}
 use Rattle.book_files.specs.Ranges.{IsRowInRange}
-use Rattle.book_files.specs.Rows.{RowPart, coordinate, height, site_width, site_spacing, site_orient, site_symmetry, subrow, ended, RowItem, header, total, begun, part, total_in, begun_in, part_in, coordinate_in, height_in, width_in, spacing_in, orient_in, symmetry_in, subrow_in, end_in, open_in, open_block, blocks_in, is_row_start, is_row_end, BlockTold, nothing_told, told_by, told_with, inner_of, row_of, closed, pitch_in, part_of, outside_of, within_or_outside, row_meaning, or_zero, pitch_of, entry_of_row, row_form}
-use Rattle.book_files.specs.Progress.{StandsFor, Refuses, Keeps}
-use Rattle.book_files.specs.SoFar.{has_items}
-use Rattle.book_files.specs.RowProgress.{block_told, IsToldInRange, HasPart, IsOneMore, HasOpen, AreEnded, AreBlocks, IsRowsSoFar}
+use Rattle.book_files.specs.Rows.{RowPart, coordinate, height, site_width, site_spacing, site_orient, site_symmetry, subrow, ended, RowItem, header, total, begun, part, total_in, begun_in, part_in, coordinate_in, height_in, width_in, spacing_in, orient_in, symmetry_in, subrow_in, end_in, open_in, open_block, blocks_in, is_row_start, is_row_end, or_zero, pitch_of, entry_of_row}
+use Rattle.book_files.specs.Forms.Rows.{BlockStated, nothing_stated, stated_by, stated_with, inner_of, row_of, closed, pitch_in, part_of, outside_of, within_or_outside, row_meaning, row_form}
+use Rattle.book_files.specs.Forms.Progress.{StandsFor, Refuses, Keeps}
+use Rattle.book_files.specs.Forms.SoFar.{has_items}
+use Rattle.book_files.specs.Forms.RowProgress.{block_stated, IsStatedInRange, HasPart, IsOneMore, HasOpen, AreEnded, AreBlocks, IsRowsSoFar}
 use Rattle.book_files.proofs.Items.{has_items-push, last_of-push, filter_map-yes, filter_map-no, latest-yes, latest-no}
 use Rattle.book_files.proofs.GroupSteps.{groups-begun, groups-part, groups-other}
 use Rattle.book_files.proofs.Progresses.{kept, refused}
-use Rattle.book_files.proofs.RowRanges.{inner_range, rows_range_more, told_range_more, row_range}
+use Rattle.book_files.proofs.RowRanges.{inner_range, rows_range_more, stated_range_more, row_range}
 
 abbrev Block : Type 0
 Block = Group (Unit {0}) RowPart
@@ -32,28 +34,28 @@ Block = Group (Unit {0}) RowPart
 abbrev block_of : List RowPart → Block
 block_of parts = record { head = tt; parts = parts }
 
-same_told : (y y' h h' w w' s s' : Option ℤ) (o o' m m' : Bool) (subrows subrows' : List SubrowEntry) → y ≡ y' → h ≡ h' → w ≡ w' → s ≡ s' → o ≡ o' → m ≡ m' → subrows ≡ subrows'
-    → ◌≡◌ {A = BlockTold} (record { y = y; height = h; width = w; spacing = s; oriented = o; symmetric = m; subrows = subrows })
+same_stated : (y y' h h' w w' s s' : Option ℤ) (o o' m m' : Bool) (subrows subrows' : List SubrowEntry) → y ≡ y' → h ≡ h' → w ≡ w' → s ≡ s' → o ≡ o' → m ≡ m' → subrows ≡ subrows'
+    → ◌≡◌ {A = BlockStated} (record { y = y; height = h; width = w; spacing = s; oriented = o; symmetric = m; subrows = subrows })
     (record { y = y'; height = h'; width = w'; spacing = s'; oriented = o'; symmetric = m'; subrows = subrows' })
-same_told y y' h h' w w' s s' o o' m m' subrows subrows' is_y is_h is_w is_s is_o is_m is_subrows = cc
+same_stated y y' h h' w w' s s' o o' m m' subrows subrows' is_y is_h is_w is_s is_o is_m is_subrows = cc
 
 -- what a block has with one line more
-told_more : (parts : List RowPart) (p : RowPart) → told_by (parts ++ p ∷ []) ≡ told_with (told_by parts) p
-told_more parts (coordinate y) = let p = coordinate y in same_told _ _ _ _ _ _ _ _ _ _ _ _ _ _ (latest-yes coordinate_in parts p y refl) (latest-no height_in parts p refl) (latest-no width_in parts p refl) (latest-no spacing_in parts p refl)
+stated_more : (parts : List RowPart) (p : RowPart) → stated_by (parts ++ p ∷ []) ≡ stated_with (stated_by parts) p
+stated_more parts (coordinate y) = let p = coordinate y in same_stated _ _ _ _ _ _ _ _ _ _ _ _ _ _ (latest-yes coordinate_in parts p y refl) (latest-no height_in parts p refl) (latest-no width_in parts p refl) (latest-no spacing_in parts p refl)
     (ap is_some (latest-no orient_in parts p refl)) (ap is_some (latest-no symmetry_in parts p refl)) (filter_map-no subrow_in parts p refl)
-told_more parts (height h) = let p = height h in same_told _ _ _ _ _ _ _ _ _ _ _ _ _ _ (latest-no coordinate_in parts p refl) (latest-yes height_in parts p h refl) (latest-no width_in parts p refl) (latest-no spacing_in parts p refl)
+stated_more parts (height h) = let p = height h in same_stated _ _ _ _ _ _ _ _ _ _ _ _ _ _ (latest-no coordinate_in parts p refl) (latest-yes height_in parts p h refl) (latest-no width_in parts p refl) (latest-no spacing_in parts p refl)
     (ap is_some (latest-no orient_in parts p refl)) (ap is_some (latest-no symmetry_in parts p refl)) (filter_map-no subrow_in parts p refl)
-told_more parts (site_width w) = let p = site_width w in same_told _ _ _ _ _ _ _ _ _ _ _ _ _ _ (latest-no coordinate_in parts p refl) (latest-no height_in parts p refl) (latest-yes width_in parts p w refl) (latest-no spacing_in parts p refl)
+stated_more parts (site_width w) = let p = site_width w in same_stated _ _ _ _ _ _ _ _ _ _ _ _ _ _ (latest-no coordinate_in parts p refl) (latest-no height_in parts p refl) (latest-yes width_in parts p w refl) (latest-no spacing_in parts p refl)
     (ap is_some (latest-no orient_in parts p refl)) (ap is_some (latest-no symmetry_in parts p refl)) (filter_map-no subrow_in parts p refl)
-told_more parts (site_spacing s) = let p = site_spacing s in same_told _ _ _ _ _ _ _ _ _ _ _ _ _ _ (latest-no coordinate_in parts p refl) (latest-no height_in parts p refl) (latest-no width_in parts p refl) (latest-yes spacing_in parts p s refl)
+stated_more parts (site_spacing s) = let p = site_spacing s in same_stated _ _ _ _ _ _ _ _ _ _ _ _ _ _ (latest-no coordinate_in parts p refl) (latest-no height_in parts p refl) (latest-no width_in parts p refl) (latest-yes spacing_in parts p s refl)
     (ap is_some (latest-no orient_in parts p refl)) (ap is_some (latest-no symmetry_in parts p refl)) (filter_map-no subrow_in parts p refl)
-told_more parts site_orient = let p = site_orient in same_told _ _ _ _ _ _ _ _ _ _ _ _ _ _ (latest-no coordinate_in parts p refl) (latest-no height_in parts p refl) (latest-no width_in parts p refl) (latest-no spacing_in parts p refl)
+stated_more parts site_orient = let p = site_orient in same_stated _ _ _ _ _ _ _ _ _ _ _ _ _ _ (latest-no coordinate_in parts p refl) (latest-no height_in parts p refl) (latest-no width_in parts p refl) (latest-no spacing_in parts p refl)
     (ap is_some (latest-yes orient_in parts p tt refl)) (ap is_some (latest-no symmetry_in parts p refl)) (filter_map-no subrow_in parts p refl)
-told_more parts site_symmetry = let p = site_symmetry in same_told _ _ _ _ _ _ _ _ _ _ _ _ _ _ (latest-no coordinate_in parts p refl) (latest-no height_in parts p refl) (latest-no width_in parts p refl) (latest-no spacing_in parts p refl)
+stated_more parts site_symmetry = let p = site_symmetry in same_stated _ _ _ _ _ _ _ _ _ _ _ _ _ _ (latest-no coordinate_in parts p refl) (latest-no height_in parts p refl) (latest-no width_in parts p refl) (latest-no spacing_in parts p refl)
     (ap is_some (latest-no orient_in parts p refl)) (ap is_some (latest-yes symmetry_in parts p tt refl)) (filter_map-no subrow_in parts p refl)
-told_more parts (subrow entry) = let p = subrow entry in same_told _ _ _ _ _ _ _ _ _ _ _ _ _ _ (latest-no coordinate_in parts p refl) (latest-no height_in parts p refl) (latest-no width_in parts p refl) (latest-no spacing_in parts p refl)
+stated_more parts (subrow entry) = let p = subrow entry in same_stated _ _ _ _ _ _ _ _ _ _ _ _ _ _ (latest-no coordinate_in parts p refl) (latest-no height_in parts p refl) (latest-no width_in parts p refl) (latest-no spacing_in parts p refl)
     (ap is_some (latest-no orient_in parts p refl)) (ap is_some (latest-no symmetry_in parts p refl)) (filter_map-yes subrow_in parts p entry refl)
-told_more parts ended = let p = ended in same_told _ _ _ _ _ _ _ _ _ _ _ _ _ _ (latest-no coordinate_in parts p refl) (latest-no height_in parts p refl) (latest-no width_in parts p refl) (latest-no spacing_in parts p refl)
+stated_more parts ended = let p = ended in same_stated _ _ _ _ _ _ _ _ _ _ _ _ _ _ (latest-no coordinate_in parts p refl) (latest-no height_in parts p refl) (latest-no width_in parts p refl) (latest-no spacing_in parts p refl)
     (ap is_some (latest-no orient_in parts p refl)) (ap is_some (latest-no symmetry_in parts p refl)) (filter_map-no subrow_in parts p refl)
 
 -- the row of a block that has what it needs is the block's entry
@@ -65,14 +67,14 @@ closed_is (Some y) (Some h) None None subrows row is = cc
 closed_is (Some y) (Some h) (Some s) w subrows row is = cc
 closed_is (Some y) (Some h) None (Some w) subrows row is = cc
 
-row_is : (parts : List RowPart) (row : RowEntry) → row_of (told_by parts) ≡ Ok row → row ≡ entry_of_row (block_of parts)
+row_is : (parts : List RowPart) (row : RowEntry) → row_of (stated_by parts) ≡ Ok row → row ≡ entry_of_row (block_of parts)
 row_is parts row is = closed_is (latest coordinate_in parts) (latest height_in parts) (latest spacing_in parts) (latest width_in parts) (filter_map subrow_in parts) row is
 
 -- the end adds nothing to what the row is
 entry_at_end : (parts : List RowPart) → entry_of_row (block_of (parts ++ ended ∷ [])) ≡ entry_of_row (block_of parts)
-entry_at_end parts = ap entry_of_told (told_more parts ended) where
-  entry_of_told : BlockTold → RowEntry
-  entry_of_told t = record { y = or_zero t.y; height = or_zero t.height; pitch = pitch_of t.spacing t.width; subrows = t.subrows }
+entry_at_end parts = ap entry_of_stated (stated_more parts ended) where
+  entry_of_stated : BlockStated → RowEntry
+  entry_of_stated t = record { y = or_zero t.y; height = or_zero t.height; pitch = pitch_of t.spacing t.width; subrows = t.subrows }
 
 meaning_first : (items : List RowItem) (line : NumberedLine) → has_items items ≡ false → row_meaning items line ≡ (if is_header (codes "scl") line.words then Ok header else Err BadHeader)
 meaning_first [] line none = refl
@@ -98,25 +100,25 @@ module _ (line : NumberedLine) (old : RowsSoFar) where
 
   -- within a block
   meaning_within : (items : List RowItem) (block : BlockSoFar) → old.begun ≡ true → old.current ≡ Some block → IsRowsSoFar items old
-      → row_meaning items line ≡ (part_of (block_told block) line.words >>= λ p. Ok (part p))
+      → row_meaning items line ≡ (part_of (block_stated block) line.words >>= λ p. Ok (part p))
   meaning_within items block some is so_far = let blocks = has_open_block items block is so_far in
       meaning_begun items line (sym so_far.begun ∙ some) ∙ (ap (λ o. within_or_outside o (is_some (latest total_in items)) line.words) (open_is items block old.blocks.items blocks)
-      ∙ ap (λ t. part_of t line.words >>= λ p. Ok (part p)) (sym blocks.told))
+      ∙ ap (λ t. part_of t line.words >>= λ p. Ok (part p)) (sym blocks.stated))
 
-pub at_end : (t : BlockTold) (words : List (List ℕ)) → is_row_end words ≡ true → part_of t words ≡ (row_of t >>= λ row. Ok ended)
+pub at_end : (t : BlockStated) (words : List (List ℕ)) → is_row_end words ≡ true → part_of t words ≡ (row_of t >>= λ row. Ok ended)
 at_end t words is = cond-true (is_row_end words) (row_of t >>= λ row. Ok ended) (inner_of t words) is
 
-pub part_inner : (t : BlockTold) (words : List (List ℕ)) → is_row_end words ≡ false → part_of t words ≡ inner_of t words
+pub part_inner : (t : BlockStated) (words : List (List ℕ)) → is_row_end words ≡ false → part_of t words ≡ inner_of t words
 part_inner t words other = cond-false (is_row_end words) (row_of t >>= λ row. Ok ended) (inner_of t words) other
 
 module _ (line : NumberedLine) (old new : RowsSoFar) where
   pub header_kept : old.begun ≡ false → is_header (codes "scl") line.words ≡ true → new.begun ≡ true → new.total ≡ old.total → new.current ≡ old.current → new.blocks.items ≡ old.blocks.items
       → (lines : List NumberedLine) → StandsFor row_form IsRowsSoFar old lines → StandsFor row_form IsRowsSoFar new (lines ++ line ∷ [])
-  header_kept none is is_begun told same_open same lines before = kept row_form IsRowsSoFar lines line old new header (λ items so_far. (
+  header_kept none is is_begun stated same_open same lines before = kept row_form IsRowsSoFar lines line old new header (λ items so_far. (
     meaning_first items line (sym so_far.begun ∙ none) ∙ cond-true _ _ _ is,
     record {
       begun = is_begun ∙ sym (has_items-push items header);
-      total = told ∙ (so_far.total ∙ sym (latest-no total_in items header refl));
+      total = stated ∙ (so_far.total ∙ sym (latest-no total_in items header refl));
       blocks = rw (same_open, same, groups-other begun_in part_in items header refl refl) so_far.blocks;
       ranges = rw same so_far.ranges;
     },
@@ -125,24 +127,24 @@ module _ (line : NumberedLine) (old new : RowsSoFar) where
   pub total_kept : (n : ℕ) → old.begun ≡ true → old.current ≡ None → is_keyed (codes "numrows") line.words ≡ true → count_of (is_some old.total) line.words ≡ Ok n
       → new.begun ≡ true → new.total ≡ Some n → new.current ≡ None → new.blocks.items ≡ old.blocks.items
       → (lines : List NumberedLine) → StandsFor row_form IsRowsSoFar old lines → StandsFor row_form IsRowsSoFar new (lines ++ line ∷ [])
-  total_kept n some none key counts is_begun told still_none same lines before = kept row_form IsRowsSoFar lines line old new (total n) (λ items so_far. (
+  total_kept n some none key counts is_begun stated still_none same lines before = kept row_form IsRowsSoFar lines line old new (total n) (λ items so_far. (
     meaning_outside line old items some none so_far ∙ (cond-true _ _ _ key ∙ ap (λ r. r >>= λ m. Ok (total m)) counts),
     record {
       begun = is_begun ∙ sym (has_items-push items (total n));
-      total = told ∙ sym (latest-yes total_in items (total n) n refl);
+      total = stated ∙ sym (latest-yes total_in items (total n) n refl);
       blocks = rw (still_none ∙ sym none, same, groups-other begun_in part_in items (total n) refl refl) so_far.blocks;
       ranges = rw same so_far.ranges;
     },
   )) before
 
-  pub begun_kept : (block : BlockSoFar) → old.begun ≡ true → old.current ≡ None → is_keyed (codes "numrows") line.words ≡ false → is_row_start line.words ≡ true → block_told block ≡ nothing_told
+  pub begun_kept : (block : BlockSoFar) → old.begun ≡ true → old.current ≡ None → is_keyed (codes "numrows") line.words ≡ false → is_row_start line.words ≡ true → block_stated block ≡ nothing_stated
       → new.begun ≡ true → new.total ≡ old.total → new.current ≡ Some block → new.blocks.items ≡ old.blocks.items
       → (lines : List NumberedLine) → StandsFor row_form IsRowsSoFar old lines → StandsFor row_form IsRowsSoFar new (lines ++ line ∷ [])
-  begun_kept block some none other starts empty is_begun told opened same lines before = kept row_form IsRowsSoFar lines line old new begun (λ items so_far. (
+  begun_kept block some none other starts empty is_begun stated opened same lines before = kept row_form IsRowsSoFar lines line old new begun (λ items so_far. (
     meaning_outside line old items some none so_far ∙ (cond-false _ _ _ other ∙ cond-true _ _ _ starts),
     record {
       begun = is_begun ∙ sym (has_items-push items begun);
-      total = told ∙ (so_far.total ∙ sym (latest-no total_in items begun refl));
+      total = stated ∙ (so_far.total ∙ sym (latest-no total_in items begun refl));
       blocks = rw (opened, same) (opens items (subst (λ o. AreBlocks o (blocks_in items) old.blocks.items) none so_far.blocks));
       ranges = rw same so_far.ranges;
     },
@@ -153,52 +155,52 @@ module _ (line : NumberedLine) (old new : RowsSoFar) where
       parts = [];
       split = groups-begun begun_in part_in items begun tt refl;
       ended = blocks.ended;
-      told = empty;
+      stated = empty;
       goes_on = refl;
       range = record { y = tt; height = tt; width = tt; spacing = tt; subrows = tt };
     }
 
-  pub part_kept : (block grown : BlockSoFar) → old.begun ≡ true → old.current ≡ Some block → is_row_end line.words ≡ false → HasPart (block_told block) line.words grown
+  pub part_kept : (block grown : BlockSoFar) → old.begun ≡ true → old.current ≡ Some block → is_row_end line.words ≡ false → HasPart (block_stated block) line.words grown
       → new.begun ≡ true → new.total ≡ old.total → new.current ≡ Some grown → new.blocks.items ≡ old.blocks.items
       → (lines : List NumberedLine) → StandsFor row_form IsRowsSoFar old lines → StandsFor row_form IsRowsSoFar new (lines ++ line ∷ [])
-  part_kept block grown some is other has_part is_begun told opened same lines before = kept row_form IsRowsSoFar lines line old new (part has_part.part) (λ items so_far. (
-    meaning_within line old items block some is so_far ∙ ap (λ r. r >>= λ p. Ok (part p)) (part_inner (block_told block) line.words other ∙ has_part.means),
+  part_kept block grown some is other has_part is_begun stated opened same lines before = kept row_form IsRowsSoFar lines line old new (part has_part.part) (λ items so_far. (
+    meaning_within line old items block some is so_far ∙ ap (λ r. r >>= λ p. Ok (part p)) (part_inner (block_stated block) line.words other ∙ has_part.means),
     record {
       begun = is_begun ∙ sym (has_items-push items (part has_part.part));
-      total = told ∙ (so_far.total ∙ sym (latest-no total_in items (part has_part.part) refl));
+      total = stated ∙ (so_far.total ∙ sym (latest-no total_in items (part has_part.part) refl));
       blocks = rw (opened, same) (grows items (has_open_block line old items block is so_far));
       ranges = rw same so_far.ranges;
     },
   )) before where
     grows : (items : List RowItem) → HasOpen block (blocks_in items) old.blocks.items → HasOpen grown (blocks_in (items ++ part has_part.part ∷ [])) old.blocks.items
-    grows items blocks = let p = has_part.part in let inner = inner_range (block_told block) line.words p has_part.means in
-        let more : told_by (blocks.parts ++ p ∷ []) ≡ told_with (told_by blocks.parts) p = told_more blocks.parts p in record {
+    grows items blocks = let p = has_part.part in let inner = inner_range (block_stated block) line.words p has_part.means in
+        let more : stated_by (blocks.parts ++ p ∷ []) ≡ stated_with (stated_by blocks.parts) p = stated_more blocks.parts p in record {
           before = blocks.before;
           parts = blocks.parts ++ p ∷ [];
           split = groups-part begun_in part_in items (part p) p blocks.before (block_of blocks.parts) refl refl blocks.split;
           ended = blocks.ended;
-          told = has_part.more ∙ (ap (λ t. told_with t p) blocks.told ∙ sym more);
+          stated = has_part.more ∙ (ap (λ t. stated_with t p) blocks.stated ∙ sym more);
           goes_on = ap is_some (latest-no end_in blocks.parts p inner.1) ∙ blocks.goes_on;
-          range = subst IsToldInRange (sym more) (told_range_more (told_by blocks.parts) p blocks.range inner.0);
+          range = subst IsStatedInRange (sym more) (stated_range_more (stated_by blocks.parts) p blocks.range inner.0);
         }
 
-  pub end_kept : (block : BlockSoFar) (row : RowBlock) → old.begun ≡ true → old.current ≡ Some block → is_row_end line.words ≡ true → row_of (block_told block) ≡ Ok (row_entry row)
+  pub end_kept : (block : BlockSoFar) (row : RowBlock) → old.begun ≡ true → old.current ≡ Some block → is_row_end line.words ≡ true → row_of (block_stated block) ≡ Ok (row_entry row)
       → new.begun ≡ true → new.total ≡ old.total → new.current ≡ None → new.blocks.items ≡ old.blocks.items ++ row ∷ []
       → (lines : List NumberedLine) → StandsFor row_form IsRowsSoFar old lines → StandsFor row_form IsRowsSoFar new (lines ++ line ∷ [])
-  end_kept block row some is key makes is_begun told closes pushed lines before = kept row_form IsRowsSoFar lines line old new (part ended) (λ items so_far. (
-    meaning_within line old items block some is so_far ∙ (ap (λ r. r >>= λ p. Ok (part p)) (at_end (block_told block) line.words key) ∙ ap (λ r. (r >>= λ entry. Ok ended) >>= λ p. Ok (part p)) makes),
+  end_kept block row some is key makes is_begun stated closes pushed lines before = kept row_form IsRowsSoFar lines line old new (part ended) (λ items so_far. (
+    meaning_within line old items block some is so_far ∙ (ap (λ r. r >>= λ p. Ok (part p)) (at_end (block_stated block) line.words key) ∙ ap (λ r. (r >>= λ entry. Ok ended) >>= λ p. Ok (part p)) makes),
     record {
       begun = is_begun ∙ sym (has_items-push items (part ended));
-      total = told ∙ (so_far.total ∙ sym (latest-no total_in items (part ended) refl));
+      total = stated ∙ (so_far.total ∙ sym (latest-no total_in items (part ended) refl));
       blocks = rw (closes, pushed) (ends items (has_open_block line old items block is so_far));
       ranges = rw (pushed, map-append row_entry old.blocks.items (row ∷ [])) (rows_range_more (row_entries old.blocks.items) (row_entry row) so_far.ranges (in_range items (has_open_block line old items block is so_far)));
     },
   )) before where
-    makes_row : (items : List RowItem) (blocks : HasOpen block (blocks_in items) old.blocks.items) → row_of (told_by blocks.parts) ≡ Ok (row_entry row)
-    makes_row items blocks = ap row_of (sym blocks.told) ∙ makes
+    makes_row : (items : List RowItem) (blocks : HasOpen block (blocks_in items) old.blocks.items) → row_of (stated_by blocks.parts) ≡ Ok (row_entry row)
+    makes_row items blocks = ap row_of (sym blocks.stated) ∙ makes
 
     in_range : (items : List RowItem) → HasOpen block (blocks_in items) old.blocks.items → IsRowInRange (row_entry row)
-    in_range items blocks = row_range (told_by blocks.parts) (row_entry row) blocks.range (makes_row items blocks)
+    in_range items blocks = row_range (stated_by blocks.parts) (row_entry row) blocks.range (makes_row items blocks)
 
     ends : (items : List RowItem) → HasOpen block (blocks_in items) old.blocks.items → AreEnded (blocks_in (items ++ part ended ∷ [])) (old.blocks.items ++ row ∷ [])
     ends items blocks = let more = groups-part begun_in part_in items (part ended) ended blocks.before (block_of blocks.parts) refl refl blocks.split in
@@ -210,24 +212,24 @@ module _ (line : NumberedLine) (old new : RowsSoFar) where
         }
 
 module _ (line : NumberedLine) (old : RowsSoFar) where
-  pub end_refused : (block : BlockSoFar) (kind : TextKind) → old.begun ≡ true → old.current ≡ Some block → is_row_end line.words ≡ true → row_of (block_told block) ≡ Err kind
+  pub end_refused : (block : BlockSoFar) (kind : TextKind) → old.begun ≡ true → old.current ≡ Some block → is_row_end line.words ≡ true → row_of (block_stated block) ≡ Err kind
       → (lines : List NumberedLine) → StandsFor row_form IsRowsSoFar old lines → Refuses row_form lines line kind
   end_refused block kind some is key fails lines before = refused row_form IsRowsSoFar lines line old kind (λ items so_far.
-      meaning_within line old items block some is so_far ∙ (ap (λ r. r >>= λ p. Ok (part p)) (at_end (block_told block) line.words key) ∙ ap (λ r. (r >>= λ entry. Ok ended) >>= λ p. Ok (part p)) fails)) before
+      meaning_within line old items block some is so_far ∙ (ap (λ r. r >>= λ p. Ok (part p)) (at_end (block_stated block) line.words key) ∙ ap (λ r. (r >>= λ entry. Ok ended) >>= λ p. Ok (part p)) fails)) before
 
-  pub part_refused : (block : BlockSoFar) (kind : TextKind) → old.begun ≡ true → old.current ≡ Some block → is_row_end line.words ≡ false → inner_of (block_told block) line.words ≡ Err kind
+  pub part_refused : (block : BlockSoFar) (kind : TextKind) → old.begun ≡ true → old.current ≡ Some block → is_row_end line.words ≡ false → inner_of (block_stated block) line.words ≡ Err kind
       → (lines : List NumberedLine) → StandsFor row_form IsRowsSoFar old lines → Refuses row_form lines line kind
   part_refused block kind some is other fails lines before = refused row_form IsRowsSoFar lines line old kind (λ items so_far.
-      meaning_within line old items block some is so_far ∙ ap (λ r. r >>= λ p. Ok (part p)) (part_inner (block_told block) line.words other ∙ fails)) before
+      meaning_within line old items block some is so_far ∙ ap (λ r. r >>= λ p. Ok (part p)) (part_inner (block_stated block) line.words other ∙ fails)) before
 
   -- what a call on the block refused
   pub end_fails : {A : Type 0} (new : RowsSoFar) (block : BlockSoFar) (kind : TextKind) (r : Result A LineError) → IsErr r → IsErrAnd r (λ e. e ≡ Kind kind) → old.begun ≡ true → old.current ≡ Some block
-      → is_row_end line.words ≡ true → row_of (block_told block) ≡ Err kind → Keeps (StandsFor row_form IsRowsSoFar) (Refuses row_form) old new line r
+      → is_row_end line.words ≡ true → row_of (block_stated block) ≡ Err kind → Keeps (StandsFor row_form IsRowsSoFar) (Refuses row_form) old new line r
   end_fails new block kind (Ok done) fails same some is key makes = cc
   end_fails new block kind (Err e) fails same some is key makes = rw same (end_refused block kind some is key makes)
 
   pub part_fails : {A : Type 0} (new : RowsSoFar) (block : BlockSoFar) (error : LineError) (r : Result A LineError) → IsErr r → IsErrAnd r (λ e. e ≡ error) → old.begun ≡ true → old.current ≡ Some block
-      → is_row_end line.words ≡ false → IsOneMore (block_told block) line.words (Err error) → Keeps (StandsFor row_form IsRowsSoFar) (Refuses row_form) old new line r
-  part_fails new block error (Ok done) fails same some is other told = cc
-  part_fails new block (Kind kind) (Err e) fails same some is other told = rw same (part_refused block kind some is other told)
-  part_fails new block Memory (Err e) fails same some is other told = rw same tt
+      → is_row_end line.words ≡ false → IsOneMore (block_stated block) line.words (Err error) → Keeps (StandsFor row_form IsRowsSoFar) (Refuses row_form) old new line r
+  part_fails new block error (Ok done) fails same some is other stated = cc
+  part_fails new block (Kind kind) (Err e) fails same some is other stated = rw same (part_refused block kind some is other stated)
+  part_fails new block Memory (Err e) fails same some is other stated = rw same tt

@@ -7,9 +7,10 @@ use Rattle.book_files.specs.declared.records.WeightLine.{WeightLine}
 use Rattle.book_files.specs.declared.weights.WeightsSoFar.{WeightsSoFar}
 use Rattle.book_files.specs.Words.{is_header}
 use Rattle.book_files.specs.Entries.{weight_entry}
-use Rattle.book_files.specs.Weights.{WeightItem, header, weighed, weight_in, weight_of, weight_meaning, weight_form}
-use Rattle.book_files.specs.Progress.{StandsFor}
-use Rattle.book_files.specs.SoFar.{has_items, IsWeightsSoFar}
+use Rattle.book_files.specs.Weights.{WeightItem, header, weighed, weight_in}
+use Rattle.book_files.specs.Forms.Weights.{weight_of, weight_meaning, weight_form}
+use Rattle.book_files.specs.Forms.Progress.{StandsFor}
+use Rattle.book_files.specs.Forms.SoFar.{has_items, IsWeightsSoFar}
 use Rattle.book_files.proofs.Items.{has_items-push, kept-yes, kept-no}
 use Rattle.book_files.proofs.Progresses.{kept}
 

@@ -37,11 +37,11 @@ abbrev pub IsAuxLineFault : List AuxEntry → NumberedLine → TextKind → Type
 IsAuxLineFault [] line BadHeader = IsFalse (is_keyed (codes "rowbasedplacement") line.words)
 IsAuxLineFault [] line BadLine = IsTrue (is_keyed (codes "rowbasedplacement") line.words) × AreBadNames (behind_two line.words)
 IsAuxLineFault [] line BadNumber = ⊥
-IsAuxLineFault [] line (CountMismatch told found) = ⊥
+IsAuxLineFault [] line (CountMismatch stated found) = ⊥
 IsAuxLineFault (entry ∷ before) line BadHeader = ⊥
 IsAuxLineFault (entry ∷ before) line BadLine = Unit {0}
 IsAuxLineFault (entry ∷ before) line BadNumber = ⊥
-IsAuxLineFault (entry ∷ before) line (CountMismatch told found) = ⊥
+IsAuxLineFault (entry ∷ before) line (CountMismatch stated found) = ⊥
 
 -- the one line's names; with no line at all there is no header
 abbrev pub IsAuxFile : List AuxEntry → AuxEntry → Type 0

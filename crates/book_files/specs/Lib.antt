@@ -1,4 +1,3 @@
-pub mod Form
 pub mod Grammar
 pub mod Words
 pub mod Shapes
@@ -20,7 +19,4 @@ pub mod RowRules
 pub mod Ranges
 pub mod PlaceText
 pub mod Loading
-pub mod Progress
-pub mod SoFar
-pub mod NetsSoFar
-pub mod RowProgress
+pub mod Forms

@@ -1,39 +1,41 @@
 -- What the load of a file answers.
-use Rattle.std.specs.Prelude.{◌≡◌, ℕ, ◌<◌, ◌≤◌, ◌^◌, ◌-◌, List, length, Option, Some, None, Result, Ok, Err, IsErrOf}
+use Rattle.std.specs.Prelude.{◌≡◌, ℕ, ◌+◌, ◌<◌, ◌≤◌, ◌^◌, ◌-◌, List, length, Option, Some, None, Result, Ok, Err, IsErrOf}
 use Rattle.book_outer.specs.declared.trouble.Trouble.{Trouble}
 use Rattle.book_outer.specs.declared.trouble.Trouble.TheVariants as trouble
-use Rattle.book_outer.specs.Cause.{Rose}
+use Rattle.book_outer.specs.Cause.{one_more}
 use Rattle.book_outer.specs.Folder.{Reading}
 use Rattle.book_outer.specs.Files.{FileEntry, content}
+use Rattle.book_files.specs.declared.loading.TheConstants.{MOST_BYTES}
 use Rattle.book_files.specs.declared.loading.LoadError.{LoadError}
 use Rattle.book_files.specs.declared.loading.LoadError.TheVariants.{ReadFault, TooLong, Memory}
-
--- the most bytes that a file may have
-abbrev pub most_bytes : ℕ
-most_bytes = 268435456
 
 -- the file is there, and has more bytes than a file may have
 pub record HasLongText (files : List FileEntry) (name : List ℕ) : Type 0 where
   pub text : List ℕ
   pub there : content files name ≡ Some text
-  pub long : most_bytes < length text
+  pub long : MOST_BYTES < length text
 
 -- what a trouble of the folder is to a load
 abbrev pub error_of : Trouble → LoadError
 error_of trouble.Failed = ReadFault
 error_of trouble.Memory = Memory
 
--- The count of read faults never falls. It rose where the answer is ReadFault, and is as before at any other answer.
+-- The count of read faults never falls. It rises by one where the answer is ReadFault, and is as before at any other answer.
 pub record HasReadCause {T : Type 0} (before now : ℕ) (result : Result T LoadError) : Type 0 where
   pub later : before ≤ now
-  pub failed : IsErrOf result ReadFault → Rose before now
+  pub failed : IsErrOf result ReadFault → now ≡ one_more before
   pub kept : (IsErrOf result ReadFault → ⊥) → now ≡ before
   pub bounded : before ≤ 2 ^ 64 - 1 → now ≤ 2 ^ 64 - 1
 
--- What was taken of the file, where the files are told: at Ok the bytes that are answered, and at TooLong more bytes than a file may have.
+-- What was taken of the file, where the files are known: at Ok the bytes that are answered, and at TooLong more bytes than a file may have.
 abbrev pub HasTaken : {T : Type 0} → (T → ℕ) → Option (List FileEntry) → List ℕ → Result T LoadError → Option Reading → Type 0
 HasTaken size None name result reading = Unit {0}
-HasTaken size (Some files) name (Ok bytes) reading = reading ≡ Some (record { name = name; place = size bytes })
-HasTaken size (Some files) name (Err TooLong) reading = (place : ℕ) × (reading ≡ Some (record { name = name; place = place })) × (most_bytes < place)
+HasTaken size (Some files) name (Ok bytes) reading = reading ≡ Some (record { name = name; at = size bytes })
+HasTaken size (Some files) name (Err TooLong) reading = (at : ℕ) × (reading ≡ Some (record { name = name; at = at })) × (MOST_BYTES < at)
 HasTaken size (Some files) name (Err ReadFault) reading = Unit {0}
 HasTaken size (Some files) name (Err Memory) reading = Unit {0}
+
+-- Each read but the last took at least one byte, and none was made behind the end: at Ok there is at most one read more than bytes, and else at most one more than a file may have.
+abbrev pub HasFewReads : {T : Type 0} → (T → ℕ) → ℕ → ℕ → Result T LoadError → Type 0
+HasFewReads size before now (Ok bytes) = now ≤ before + (size bytes + 1)
+HasFewReads size before now (Err error) = now ≤ before + (MOST_BYTES + 1)

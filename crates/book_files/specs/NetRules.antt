@@ -43,15 +43,15 @@ IsPinOffset (node ∷ direction ∷ colon ∷ []) dx dy = (dx ≡ pos 0) × (dy 
 IsPinOffset (node ∷ direction ∷ colon ∷ x ∷ []) dx dy = (dx ≡ pos 0) × (dy ≡ pos 0)
 
 -- the net that was begun last has fewer pins than it is to have
-pub record IsShort (items : List NetItem) (told found : ℕ) : Type 0 where
+pub record IsShort (items : List NetItem) (stated found : ℕ) : Type 0 where
   pub last : Group NetHead PinEntry
   pub begun : open_net items ≡ Some last
-  pub degree : told ≡ last.head.degree
+  pub degree : stated ≡ last.head.degree
   pub pins : found ≡ length last.parts
-  pub fewer : found < told
+  pub fewer : found < stated
 
 abbrev pub IsNotShort : List NetItem → Type 0
-IsNotShort items = (told found : ℕ) → IsShort items told found → ⊥
+IsNotShort items = (stated found : ℕ) → IsShort items stated found → ⊥
 
 -- a pin's line stands behind a line that starts a net
 pub record IsPinLine (before : List NetItem) (words : List (List ℕ)) (last : Group NetHead PinEntry) : Type 0 where
@@ -95,36 +95,36 @@ pub record HasNetsNumbers (words : List (List ℕ)) : Type 0 where
 
 -- the line starts a net, and the net before has too few pins: this is seen before anything else of the line
 abbrev pub IsShortAtLine : List NetItem → List (List ℕ) → ℕ → ℕ → Type 0
-IsShortAtLine before words told found = IsTrue (is_net_start words) × IsShort before told found
+IsShortAtLine before words stated found = IsTrue (is_net_start words) × IsShort before stated found
 
 -- the line is that of a pin, and its net has all its pins already
-pub record IsPinTooMany (before : List NetItem) (words : List (List ℕ)) (told found : ℕ) : Type 0 where
+pub record IsPinTooMany (before : List NetItem) (words : List (List ℕ)) (stated found : ℕ) : Type 0 where
   pub last : Group NetHead PinEntry
   pub shape : IsPinLine before words last
   pub numbers : HasNetsNumbers words
-  pub degree : told ≡ last.head.degree
-  pub more : found ≡ told + 1
-  pub full : told ≤ length last.parts
+  pub degree : stated ≡ last.head.degree
+  pub more : found ≡ stated + 1
+  pub full : stated ≤ length last.parts
 
 -- the net before has its pins, where the line starts a net
 abbrev pub IsNotShortAtLine : List NetItem → List (List ℕ) → Type 0
-IsNotShortAtLine before words = (told found : ℕ) → IsShortAtLine before words told found → ⊥
+IsNotShortAtLine before words = (stated found : ℕ) → IsShortAtLine before words stated found → ⊥
 
 abbrev pub IsNetsLineFault : List NetItem → NumberedLine → TextKind → Type 0
 IsNetsLineFault [] line BadHeader = IsFalse (is_header (codes "nets") line.words)
 IsNetsLineFault [] line BadLine = ⊥
 IsNetsLineFault [] line BadNumber = ⊥
-IsNetsLineFault [] line (CountMismatch told found) = ⊥
+IsNetsLineFault [] line (CountMismatch stated found) = ⊥
 IsNetsLineFault (item ∷ before) line BadHeader = ⊥
 IsNetsLineFault (item ∷ before) line BadLine = IsNotShortAtLine (item ∷ before) line.words × (HasNetsShape (item ∷ before) line.words → ⊥)
 IsNetsLineFault (item ∷ before) line BadNumber = IsNotShortAtLine (item ∷ before) line.words × HasNetsShape (item ∷ before) line.words × (HasNetsNumbers line.words → ⊥)
-IsNetsLineFault (item ∷ before) line (CountMismatch told found) = IsShortAtLine (item ∷ before) line.words told found ⊎ IsPinTooMany (item ∷ before) line.words told found
+IsNetsLineFault (item ∷ before) line (CountMismatch stated found) = IsShortAtLine (item ∷ before) line.words stated found ⊎ IsPinTooMany (item ∷ before) line.words stated found
 
 -- how many pins stand there
 abbrev pub pins_found : List NetItem → ℕ
 pins_found items = length (filter_map pin_in items)
 
--- the nets are those that stand there, each with its pins, and both numbers are told
+-- the nets are those that stand there, each with its pins, and both numbers are stated
 pub record IsNetsFile (items : List NetItem) (nets : List NetEntry) : Type 0 where
   pub blocks : nets ≡ map entry_of_net (nets_in items)
   pub whole : IsNotShort items
@@ -132,27 +132,27 @@ pub record IsNetsFile (items : List NetItem) (nets : List NetEntry) : Type 0 whe
   pub pins : latest pin_total_in items ≡ Some (pins_found items)
 
 -- another number of nets than stands there
-pub record IsOtherNets (items : List NetItem) (told found : ℕ) : Type 0 where
+pub record IsOtherNets (items : List NetItem) (stated found : ℕ) : Type 0 where
   pub whole : IsNotShort items
-  pub count : latest total_in items ≡ Some told
+  pub count : latest total_in items ≡ Some stated
   pub pins : latest pin_total_in items ≢ None
   pub nets : found ≡ length (nets_in items)
-  pub differ : told ≢ found
+  pub differ : stated ≢ found
 
 -- the number of nets is right, and another number of pins than stands there
-pub record IsOtherPins (items : List NetItem) (told found : ℕ) : Type 0 where
+pub record IsOtherPins (items : List NetItem) (stated found : ℕ) : Type 0 where
   pub whole : IsNotShort items
   pub count : latest total_in items ≡ Some (length (nets_in items))
-  pub pins : latest pin_total_in items ≡ Some told
+  pub pins : latest pin_total_in items ≡ Some stated
   pub stand : found ≡ pins_found items
-  pub differ : told ≢ found
+  pub differ : stated ≢ found
 
 -- No line at all; then too few pins of the last net; then a missing count line; then another number of nets, then of pins.
 abbrev pub IsNetsEndFault : List NetItem → TextKind → Type 0
 IsNetsEndFault items BadHeader = items ≡ []
 IsNetsEndFault items BadLine = (items ≢ []) × IsNotShort items × ((latest total_in items ≡ None) ⊎ (latest pin_total_in items ≡ None))
 IsNetsEndFault items BadNumber = ⊥
-IsNetsEndFault items (CountMismatch told found) = IsShort items told found ⊎ (IsOtherNets items told found ⊎ IsOtherPins items told found)
+IsNetsEndFault items (CountMismatch stated found) = IsShort items stated found ⊎ (IsOtherNets items stated found ⊎ IsOtherPins items stated found)
 
 abbrev pub nets_grammar : Grammar NetItem (List NetEntry)
 nets_grammar = record { IsItem = IsNetsItem; IsLineFault = IsNetsLineFault; IsFile = IsNetsFile; IsEndFault = IsNetsEndFault }

@@ -42,7 +42,7 @@ pub record HasNodesNumbers (words : List (List ℕ)) : Type 0 where
   pub width : IsFalse (is_counted words) → HasSize (word_at words 1)
   pub height : IsFalse (is_counted words) → HasSize (word_at words 2)
 
--- the nodes are the node lines in order, and their number is told
+-- the nodes are the node lines in order, and their number is stated
 pub record IsNodesFile (items : List NodeItem) (nodes : List NodeEntry) : Type 0 where
   pub lines : nodes ≡ filter_map node_in items
   pub count : latest total_in items ≡ Some (length nodes)
@@ -52,7 +52,7 @@ abbrev pub IsNodesEndFault : List NodeItem → TextKind → Type 0
 IsNodesEndFault items BadHeader = items ≡ []
 IsNodesEndFault items BadLine = (items ≢ []) × (latest total_in items ≡ None)
 IsNodesEndFault items BadNumber = ⊥
-IsNodesEndFault items (CountMismatch told found) = (latest total_in items ≡ Some told) × (found ≡ length (filter_map node_in items)) × (told ≢ found)
+IsNodesEndFault items (CountMismatch stated found) = (latest total_in items ≡ Some stated) × (found ≡ length (filter_map node_in items)) × (stated ≢ found)
 
 abbrev pub nodes_grammar : Grammar NodeItem (List NodeEntry)
 nodes_grammar = record {

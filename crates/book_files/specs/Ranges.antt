@@ -1,13 +1,14 @@
 -- What holds of the records of a file: the ranges of their numbers, and that the name of a node is a word that begins no comment.
-use Rattle.std.specs.Prelude.{◌^◌, ◌≤◌, ℕ, List, length, ℤ, pos, neg_ℤ, ◌≤ℤ◌, ◌<ℤ◌, IsFalse}
+use Rattle.std.specs.Prelude.{◌≤◌, ℕ, List, length, ℤ, pos, ◌≤ℤ◌, ◌<ℤ◌, IsFalse}
 use Rattle.std.specs.List.{AllByRecursion, sum_by}
 use Rattle.book_text.specs.Lines.{IsWord, is_comment_word}
+use Rattle.book_text.specs.Coordinates.{IsMicro}
+use Rattle.book_text.specs.declared.number.TheConstants.{MOST_WHOLE}
 use Rattle.book_files.specs.Entries.{NodeEntry, WeightEntry, PlaceEntry, PinEntry, NetEntry, SubrowEntry, RowEntry}
 
 -- from -1,000,000 to 1,000,000 units, in millionths
-pub record IsInRange (value : ℤ) : Type 0 where
-  pub low : neg_ℤ (pos (10 ^ 12)) ≤ℤ value
-  pub high : value ≤ℤ pos (10 ^ 12)
+abbrev pub IsInRange : ℤ → Type 0
+IsInRange value = IsMicro value
 
 -- a word that may stand for a node at a line's start: one that begins no comment
 pub record IsName (name : List ℕ) : Type 0 where
@@ -37,7 +38,7 @@ IsNetInRange net = AllByRecursion IsPinInRange net.pins
 
 pub record IsSubrowInRange (subrow : SubrowEntry) : Type 0 where
   pub x : IsInRange subrow.x
-  pub sites : subrow.sites ≤ 2 ^ 40
+  pub sites : subrow.sites ≤ MOST_WHOLE
 
 pub record IsRowInRange (row : RowEntry) : Type 0 where
   pub y : IsInRange row.y

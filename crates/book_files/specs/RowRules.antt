@@ -17,9 +17,9 @@ pub record IsSubrowShape (words : List (List ℕ)) : Type 0 where
   pub colon : IsTrue (is_colon_word (word_at words 4))
 
 -- a keyword and a colon, behind which anything may stand, and no line of the block before it has this keyword
-pub record IsOnceKeyed {A : Type 0} (key : List ℕ) (told : RowPart → Option A) (parts : List RowPart) (words : List (List ℕ)) : Type 0 where
+pub record IsOnceKeyed {A : Type 0} (key : List ℕ) (stated : RowPart → Option A) (parts : List RowPart) (words : List (List ℕ)) : Type 0 where
   pub keyed : IsTrue (is_keyed key words)
-  pub once : latest told parts ≡ None
+  pub once : latest stated parts ≡ None
 
 -- a block has at its end what it needs
 pub record IsWholeBlock (parts : List RowPart) : Type 0 where
@@ -27,7 +27,7 @@ pub record IsWholeBlock (parts : List RowPart) : Type 0 where
   pub height : latest height_in parts ≢ None
   pub pitch : (latest width_in parts ≢ None) ⊎ (latest spacing_in parts ≢ None)
 
--- the shape of a line within a block, by what it tells
+-- the shape of a line within a block, by what it states
 abbrev pub IsPartShape : List RowPart → List (List ℕ) → RowPart → Type 0
 IsPartShape parts words (coordinate y) = IsOnceShape (codes "coordinate") coordinate_in parts words
 IsPartShape parts words (height h) = IsOnceShape (codes "height") height_in parts words
@@ -50,22 +50,22 @@ ArePartNumbers words (subrow entry) = IsNumber (word_at words 2) entry.x × IsWh
 ArePartNumbers words ended = Unit {0}
 
 -- a line of a block that isn't ended
-pub record IsPartLine (before : List RowItem) (words : List (List ℕ)) (told : RowPart) : Type 0 where
+pub record IsPartLine (before : List RowItem) (words : List (List ℕ)) (stated : RowPart) : Type 0 where
   pub parts : List RowPart
   pub within : open_block before ≡ Some parts
-  pub shape : IsPartShape parts words told
-  pub numbers : ArePartNumbers words told
+  pub shape : IsPartShape parts words stated
+  pub numbers : ArePartNumbers words stated
 
 abbrev pub IsRowsItem : List RowItem → NumberedLine → RowItem → Type 0
 IsRowsItem before line header = IsHeaderLine (codes "scl") before line
 IsRowsItem before line (total n) = (before ≢ []) × (open_block before ≡ None) × IsOnceShape (codes "numrows") total_in before line.words × IsWhole (word_at line.words 2) n
 IsRowsItem before line begun = (before ≢ []) × (open_block before ≡ None) × IsTrue (is_row_start line.words)
-IsRowsItem before line (part told) = (before ≢ []) × IsPartLine before line.words told
+IsRowsItem before line (part stated) = (before ≢ []) × IsPartLine before line.words stated
 
 -- Between blocks the number of rows, once, or the start of a block; within a block one of its lines.
 abbrev pub HasRowsShape : List RowItem → List (List ℕ) → Type 0
 HasRowsShape before words = ((open_block before ≡ None) × (IsOnceShape (codes "numrows") total_in before words ⊎ IsTrue (is_row_start words)))
-    ⊎ ((parts : List RowPart) × (told : RowPart) × (open_block before ≡ Some parts) × IsPartShape parts words told)
+    ⊎ ((parts : List RowPart) × (stated : RowPart) × (open_block before ≡ Some parts) × IsPartShape parts words stated)
 
 -- each word in a number's place is a number in its range
 pub record HasRowsNumbers (words : List (List ℕ)) : Type 0 where
@@ -77,25 +77,25 @@ pub record HasRowsNumbers (words : List (List ℕ)) : Type 0 where
   pub origin : IsTrue (is_keyed (codes "subroworigin") words) → HasNumber (word_at words 2)
   pub sites : IsTrue (is_keyed (codes "subroworigin") words) → HasWhole (word_at words 5)
 
--- the rows are the blocks in order, the last of them is ended, and their number is told
+-- the rows are the blocks in order, the last of them is ended, and their number is stated
 pub record IsRowsFile (items : List RowItem) (rows : List RowEntry) : Type 0 where
   pub blocks : rows ≡ map entry_of_row (blocks_in items)
   pub ended : open_block items ≡ None
   pub count : latest total_in items ≡ Some (length rows)
 
 -- another number of rows than stands there
-pub record IsOtherRows (items : List RowItem) (told found : ℕ) : Type 0 where
+pub record IsOtherRows (items : List RowItem) (stated found : ℕ) : Type 0 where
   pub ended : open_block items ≡ None
-  pub count : latest total_in items ≡ Some told
+  pub count : latest total_in items ≡ Some stated
   pub rows : found ≡ length (blocks_in items)
-  pub differ : told ≢ found
+  pub differ : stated ≢ found
 
 -- No line at all; then a block that isn't ended; then no number of rows; then another number.
 abbrev pub IsRowsEndFault : List RowItem → TextKind → Type 0
 IsRowsEndFault items BadHeader = items ≡ []
 IsRowsEndFault items BadLine = (items ≢ []) × ((open_block items ≢ None) ⊎ (latest total_in items ≡ None))
 IsRowsEndFault items BadNumber = ⊥
-IsRowsEndFault items (CountMismatch told found) = IsOtherRows items told found
+IsRowsEndFault items (CountMismatch stated found) = IsOtherRows items stated found
 
 abbrev pub rows_grammar : Grammar RowItem (List RowEntry)
 rows_grammar = record {

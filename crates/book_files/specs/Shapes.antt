@@ -39,11 +39,11 @@ HasSize word = (value : ℤ) × IsSize word value
 abbrev pub HasPositive : List ℕ → Type 0
 HasPositive word = (value : ℤ) × IsPositive word value
 
--- `KEYWORD : word`, and no item before tells what such a line tells
-pub record IsOnceShape {I A : Type 0} (key : List ℕ) (told : I → Option A) (before : List I) (words : List (List ℕ)) : Type 0 where
+-- `KEYWORD : word`, and no item before states what such a line states
+pub record IsOnceShape {I A : Type 0} (key : List ℕ) (stated : I → Option A) (before : List I) (words : List (List ℕ)) : Type 0 where
   pub keyed : IsTrue (is_keyed key words)
   pub three : length words ≡ 3
-  pub once : latest told before ≡ None
+  pub once : latest stated before ≡ None
 
 -- the first line is the header
 abbrev pub IsHeaderLine : {I : Type 0} → List ℕ → List I → NumberedLine → Type 0
@@ -55,16 +55,16 @@ abbrev pub IsShapeFault : {I : Type 0} → List ℕ → (List I → List (List �
 IsShapeFault kind HasShape HasNumbers [] line BadHeader = IsFalse (is_header kind line.words)
 IsShapeFault kind HasShape HasNumbers [] line BadLine = ⊥
 IsShapeFault kind HasShape HasNumbers [] line BadNumber = ⊥
-IsShapeFault kind HasShape HasNumbers [] line (CountMismatch told found) = ⊥
+IsShapeFault kind HasShape HasNumbers [] line (CountMismatch stated found) = ⊥
 IsShapeFault kind HasShape HasNumbers (item ∷ before) line BadHeader = ⊥
 IsShapeFault kind HasShape HasNumbers (item ∷ before) line BadLine = HasShape (item ∷ before) line.words → ⊥
 IsShapeFault kind HasShape HasNumbers (item ∷ before) line BadNumber = HasShape (item ∷ before) line.words × (HasNumbers line.words → ⊥)
-IsShapeFault kind HasShape HasNumbers (item ∷ before) line (CountMismatch told found) = ⊥
+IsShapeFault kind HasShape HasNumbers (item ∷ before) line (CountMismatch stated found) = ⊥
 
 -- no line at all is the one fault at the end of a file without counts
 abbrev pub IsEmptyFault : {I : Type 0} → List I → TextKind → Type 0
 IsEmptyFault [] BadHeader = Unit {0}
 IsEmptyFault [] BadLine = ⊥
 IsEmptyFault [] BadNumber = ⊥
-IsEmptyFault [] (CountMismatch told found) = ⊥
+IsEmptyFault [] (CountMismatch stated found) = ⊥
 IsEmptyFault (item ∷ items) kind = ⊥

@@ -4,8 +4,9 @@ ghost use Rattle.std.specs.Str.{is_utf8};
 ghost use Rattle.std.specs.Char.{to_ascii_lowercase};
 ghost use Rattle.book_files.specs.Grammar.{Answers};
 ghost use Rattle.book_files.specs.AuxRules.{aux_grammar};
-ghost use Rattle.book_files.specs.Progress.{Gives};
-ghost use Rattle.book_files.specs.Aux.{aux_meaning, has_suffix, is_file_name, named, names_of, aux_by_suffix, only, at_most_one};
+ghost use Rattle.book_files.specs.Forms.Progress.{Gives};
+ghost use Rattle.book_files.specs.Aux.{has_suffix, is_file_name, named};
+ghost use Rattle.book_files.specs.Forms.Aux.{aux_meaning, names_of, aux_by_suffix, only, at_most_one};
 ghost use Rattle.book_files.specs.Entries.{aux_entry};
 
 use crate::fault::{LineError, ReadError, TextKind, fault_at_end};
@@ -34,9 +35,9 @@ struct AuxSoFar<'a> {
 }
 
 impl<'a> Progress<'a> for AuxSoFar<'a> {
-    ghost use Rattle.book_files.specs.Progress.{StandsFor, Refuses};
-    ghost use Rattle.book_files.specs.Aux.{aux_form};
-    ghost use Rattle.book_files.specs.SoFar.{IsAuxSoFar};
+    ghost use Rattle.book_files.specs.Forms.Progress.{StandsFor, Refuses};
+    ghost use Rattle.book_files.specs.Forms.Aux.{aux_form};
+    ghost use Rattle.book_files.specs.Forms.SoFar.{IsAuxSoFar};
 
     ghost stands_for = { StandsFor aux_form IsAuxSoFar };
 

@@ -32,7 +32,7 @@ pub enum LineError {
 }
 
 impl LineError {
-    ghost use Rattle.book_files.specs.Progress.{error_at};
+    ghost use Rattle.book_files.specs.Forms.Progress.{error_at};
 
     /// The same at a line's number.
     pub fn at(self, line: u64) -> ReadError

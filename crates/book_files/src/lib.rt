@@ -31,7 +31,7 @@ mod words;
 pub use aux::read_aux;
 pub use fault::{ReadError, TextFault, TextKind};
 pub use laws::one_answer;
-pub use loading::{LoadError, load};
+pub use loading::{LoadError, MOST_BYTES, load};
 pub use name::Name;
 pub use nets::{NetFile, Pins, read_nets};
 pub use nodes::{NodeFile, read_nodes};

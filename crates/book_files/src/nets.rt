@@ -3,9 +3,10 @@ ghost use Rattle.std.specs.List.{AllByRecursion};
 ghost use Rattle.book_files.specs.Grammar.{Answers};
 ghost use Rattle.book_files.specs.NetRules.{nets_grammar};
 ghost use Rattle.book_files.specs.Ranges.{IsPinInRange, IsNetInRange, pin_count};
-ghost use Rattle.book_files.specs.Progress.{Gives};
-ghost use Rattle.book_files.specs.Nets.{net, head_of, pin_of, is_direction, offset_pin, plain_pin};
-ghost use Rattle.book_files.specs.NetsSoFar.{head_entry, open_entries, counted, KeepsPinIn};
+ghost use Rattle.book_files.specs.Forms.Progress.{Gives};
+ghost use Rattle.book_files.specs.Nets.{net, is_direction};
+ghost use Rattle.book_files.specs.Forms.Nets.{head_of, pin_of, offset_pin, plain_pin};
+ghost use Rattle.book_files.specs.Forms.NetsSoFar.{head_entry, open_entries, counted, KeepsPinIn};
 ghost use Rattle.book_files.specs.Entries.{pin_entry, pin_entries};
 ghost use Rattle.book_files.specs.Blocks.{net_entries};
 
@@ -95,8 +96,8 @@ impl<'a> NetFile<'a> {
 
 /// The nets that a `.nets` file has, or its first fault. Offsets are in millionths.
 ///
-/// Each net has as many pins as it was told to have, and the nets and the pins are as many as the
-/// count lines tell.
+/// Each net has as many pins as it is stated to have, and the nets and the pins are as many as the
+/// count lines state.
 pub fn read_nets(alloc: Global, bytes: &[u8]) -> Result<NetFile<'_>, ReadError>
     ensures reading { Answers nets_grammar (λ file. file) bytes.now result }
     ensures few { IfOk result (λ file. length file + pin_count file ≤ length bytes.now) }
@@ -134,17 +135,20 @@ struct OpenNet<'a> {
 }
 
 impl<'a> OpenNet<'a> {
-    ghost use Rattle.book_files.specs.Nets.{unless_short};
-    ghost use Rattle.book_files.specs.NetsSoFar.{open_group, KeepsPin};
+    ghost use Rattle.book_files.specs.Forms.Nets.{unless_short};
+    ghost use Rattle.book_files.specs.Forms.NetsSoFar.{open_group, KeepsPin};
 
     /// Whether it has as many pins as it is to have.
     fn expect_whole(&self) -> Result<(), TextKind>
         ensures { Gives (λ _. tt) result (unless_short (Some (open_group self.now))) }
     {
-        let told = self.head.degree;
+        let stated = self.head.degree;
         let found = self.pins.len() as u64;
-        if found < told {
-            return Err(TextKind::CountMismatch { told, found });
+        if found < stated {
+            return Err(TextKind::CountMismatch {
+                told: stated,
+                found,
+            });
         }
         Ok(())
     }
@@ -155,17 +159,20 @@ impl<'a> OpenNet<'a> {
             (record { number = number; words = map (λ w. w.now) words.now }) result }
     {
         let pin = pin_of(number, words)?;
-        let told = self.head.degree;
-        if told <= self.pins.len() as u64 {
-            let found = told + 1;
-            return Err(LineError::Kind(TextKind::CountMismatch { told, found }));
+        let stated = self.head.degree;
+        if stated <= self.pins.len() as u64 {
+            let found = stated + 1;
+            return Err(LineError::Kind(TextKind::CountMismatch {
+                told: stated,
+                found,
+            }));
         }
         self.pins.push(pin)?;
         Ok(())
     }
 }
 
-/// Whether the header was read, which counts were told, how many pins were found, and the nets, of
+/// Whether the header was read, which counts were stated, how many pins were found, and the nets, of
 /// which the last is open.
 #[derive(Drop)]
 struct NetsSoFar<'a> {
@@ -180,8 +187,8 @@ struct NetsSoFar<'a> {
 
 impl<'a> NetsSoFar<'a> {
     ghost use Rattle.std.specs.Prelude.{option_map};
-    ghost use Rattle.book_files.specs.Nets.{unless_short};
-    ghost use Rattle.book_files.specs.NetsSoFar.{open_group, all_entries, at_end, BeginsNet};
+    ghost use Rattle.book_files.specs.Forms.Nets.{unless_short};
+    ghost use Rattle.book_files.specs.Forms.NetsSoFar.{open_group, all_entries, at_end, BeginsNet};
 
     /// Whether the open net, if there is one, has as many pins as it is to have.
     fn expect_whole(&self) -> Result<(), TextKind>
@@ -235,9 +242,9 @@ impl<'a> NetsSoFar<'a> {
 }
 
 impl<'a> Progress<'a> for NetsSoFar<'a> {
-    ghost use Rattle.book_files.specs.Progress.{StandsFor, Refuses};
-    ghost use Rattle.book_files.specs.Nets.{net_form};
-    ghost use Rattle.book_files.specs.NetsSoFar.{IsNetsSoFar};
+    ghost use Rattle.book_files.specs.Forms.Progress.{StandsFor, Refuses};
+    ghost use Rattle.book_files.specs.Forms.Nets.{net_form};
+    ghost use Rattle.book_files.specs.Forms.NetsSoFar.{IsNetsSoFar};
 
     ghost stands_for = { StandsFor net_form IsNetsSoFar };
 
@@ -297,12 +304,15 @@ fn close<'a>(
     }
 }
 
-/// Whether as many were found as were told.
-fn expect_count(told: u64, found: u64) -> Result<(), TextKind>
-    ensures { Gives (λ _. tt) result (counted told found) }
+/// Whether as many were found as were stated.
+fn expect_count(stated: u64, found: u64) -> Result<(), TextKind>
+    ensures { Gives (λ _. tt) result (counted stated found) }
 {
-    if told != found {
-        return Err(TextKind::CountMismatch { told, found });
+    if stated != found {
+        return Err(TextKind::CountMismatch {
+            told: stated,
+            found,
+        });
     }
     Ok(())
 }

@@ -3,8 +3,9 @@ ghost use Rattle.std.specs.List.{AllByRecursion};
 ghost use Rattle.book_files.specs.Ranges.{IsNodeInRange};
 ghost use Rattle.book_files.specs.Grammar.{Answers};
 ghost use Rattle.book_files.specs.NodeRules.{nodes_grammar};
-ghost use Rattle.book_files.specs.Progress.{Gives};
-ghost use Rattle.book_files.specs.Nodes.{node, sized, node_of};
+ghost use Rattle.book_files.specs.Forms.Progress.{Gives};
+ghost use Rattle.book_files.specs.Nodes.{node};
+ghost use Rattle.book_files.specs.Forms.Nodes.{sized, node_of};
 ghost use Rattle.book_files.specs.Entries.{node_entry, node_entries};
 
 use crate::fault::{LineError, ReadError, TextKind, fault_at_end};
@@ -53,7 +54,7 @@ pub fn read_nodes(alloc: Global, bytes: &[u8]) -> Result<NodeFile<'_>, ReadError
     let mut so_far = NodesSoFar {
         begun: false,
         total: None,
-        terminals_told: false,
+        terminals_stated: false,
         lines: Vec::new(alloc),
     };
     keep_lines(alloc, bytes, &mut so_far)?;
@@ -66,17 +67,17 @@ pub fn read_nodes(alloc: Global, bytes: &[u8]) -> Result<NodeFile<'_>, ReadError
     }
 }
 
-/// Whether the header was read, which counts were told, and the node lines.
+/// Whether the header was read, which counts were stated, and the node lines.
 #[derive(Drop)]
 struct NodesSoFar<'a> {
     begun: bool,
     total: Option<u64>,
-    terminals_told: bool,
+    terminals_stated: bool,
     lines: Vec<NodeLine<'a>>,
 }
 
 impl<'a> NodesSoFar<'a> {
-    ghost use Rattle.book_files.specs.SoFar.{end_fault};
+    ghost use Rattle.book_files.specs.Forms.SoFar.{end_fault};
 
     /// The fault where no line follows.
     fn fault(&self) -> Option<TextKind>
@@ -88,16 +89,19 @@ impl<'a> NodesSoFar<'a> {
         let found = self.lines.len() as u64;
         match self.total {
             None => Some(TextKind::BadLine),
-            Some(told) if told != found => Some(TextKind::CountMismatch { told, found }),
+            Some(stated) if stated != found => Some(TextKind::CountMismatch {
+                told: stated,
+                found,
+            }),
             Some(_) => None,
         }
     }
 }
 
 impl<'a> Progress<'a> for NodesSoFar<'a> {
-    ghost use Rattle.book_files.specs.Progress.{StandsFor, Refuses};
-    ghost use Rattle.book_files.specs.Nodes.{node_form};
-    ghost use Rattle.book_files.specs.SoFar.{IsNodesSoFar};
+    ghost use Rattle.book_files.specs.Forms.Progress.{StandsFor, Refuses};
+    ghost use Rattle.book_files.specs.Forms.Nodes.{node_form};
+    ghost use Rattle.book_files.specs.Forms.SoFar.{IsNodesSoFar};
 
     ghost stands_for = { StandsFor node_form IsNodesSoFar };
 
@@ -112,8 +116,8 @@ impl<'a> Progress<'a> for NodesSoFar<'a> {
         } else if is_keyed(b"numnodes", words) {
             self.total = Some(count_of(self.total.is_some(), words)?);
         } else if is_keyed(b"numterminals", words) {
-            count_of(self.terminals_told, words)?;
-            self.terminals_told = true;
+            count_of(self.terminals_stated, words)?;
+            self.terminals_stated = true;
         } else {
             self.lines.push(node_of(number, words)?)?;
         }

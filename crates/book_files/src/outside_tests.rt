@@ -47,7 +47,7 @@ fn whole_files_are_loaded(rt: HostRuntime) {
 }
 
 #[test]
-fn a_read_that_fails_is_told(rt: HostRuntime) {
+fn a_read_that_fails_is_named(rt: HostRuntime) {
     let files = two_files(rt.alloc()).expect(&rt, "files");
     let failing = only(rt.alloc(), 3).expect(&rt, "a list");
     let mut folder = MemFolder::new(files, failing);

@@ -3,8 +3,9 @@ ghost use Rattle.std.specs.List.{AllByRecursion};
 ghost use Rattle.book_files.specs.Ranges.{IsPlaceInRange};
 ghost use Rattle.book_files.specs.Grammar.{Answers};
 ghost use Rattle.book_files.specs.PlaceRules.{places_grammar};
-ghost use Rattle.book_files.specs.Progress.{Gives};
-ghost use Rattle.book_files.specs.Places.{placed, is_fixed_mark, orient_of, placed_at, turned, place_of};
+ghost use Rattle.book_files.specs.Forms.Progress.{Gives};
+ghost use Rattle.book_files.specs.Places.{placed, is_fixed_mark, orient_of};
+ghost use Rattle.book_files.specs.Forms.Places.{placed_at, turned, place_of};
 ghost use Rattle.book_files.specs.Entries.{place_entry, place_entries};
 
 use crate::fault::{LineError, ReadError, TextKind, fault_at_end};
@@ -72,9 +73,9 @@ struct PlacesSoFar<'a> {
 }
 
 impl<'a> Progress<'a> for PlacesSoFar<'a> {
-    ghost use Rattle.book_files.specs.Progress.{StandsFor, Refuses};
-    ghost use Rattle.book_files.specs.Places.{place_form};
-    ghost use Rattle.book_files.specs.SoFar.{IsPlacesSoFar};
+    ghost use Rattle.book_files.specs.Forms.Progress.{StandsFor, Refuses};
+    ghost use Rattle.book_files.specs.Forms.Places.{place_form};
+    ghost use Rattle.book_files.specs.Forms.SoFar.{IsPlacesSoFar};
 
     ghost stands_for = { StandsFor place_form IsPlacesSoFar };
 

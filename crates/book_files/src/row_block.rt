@@ -1,11 +1,11 @@
 //! A row block of a `.scl` file, line by line.
 
 ghost use Rattle.std.specs.Prelude.{◌≡◌, map, OnOk};
-ghost use Rattle.book_files.specs.Progress.{Gives};
+ghost use Rattle.book_files.specs.Forms.Progress.{Gives};
 ghost use Rattle.book_files.specs.Entries.{subrow_entry};
 ghost use Rattle.book_files.specs.Blocks.{row_entry};
-ghost use Rattle.book_files.specs.Rows.{nothing_told, told_with, inner_of, row_of};
-ghost use Rattle.book_files.specs.RowProgress.{block_told, part_view, IsPartInRange, IsOneMore};
+ghost use Rattle.book_files.specs.Forms.Rows.{nothing_stated, stated_with, inner_of, row_of};
+ghost use Rattle.book_files.specs.Forms.RowProgress.{block_stated, part_view, IsPartInRange, IsOneMore};
 
 use crate::fault::{LineError, TextKind};
 use crate::records::{RowBlock, SubrowLine};
@@ -41,7 +41,7 @@ enum Part {
 impl BlockSoFar {
     /// A block without lines.
     pub fn new(alloc: Global) -> BlockSoFar
-        ensures { block_told result ≡ nothing_told }
+        ensures { block_stated result ≡ nothing_stated }
     {
         BlockSoFar {
             coordinate: None,
@@ -56,7 +56,7 @@ impl BlockSoFar {
 
     /// The block with one line more, which isn't its end.
     pub fn with(self, words: &[&[u8]]) -> Result<BlockSoFar, LineError>
-        ensures { IsOneMore (block_told self) (map (λ w. w.now) words.now) result }
+        ensures { IsOneMore (block_stated self) (map (λ w. w.now) words.now) result }
     {
         let mut block = self;
         let part = block.part_of(words)?;
@@ -67,7 +67,7 @@ impl BlockSoFar {
     /// What the line is within the block.
     fn part_of(&self, words: &[&[u8]]) -> Result<Part, TextKind>
         ensures { Gives part_view result
-            (inner_of (block_told self.now) (map (λ w. w.now) words.now)) }
+            (inner_of (block_stated self.now) (map (λ w. w.now) words.now)) }
     {
         match key_of(words) {
             Some(PartKey::Coordinate) => {
@@ -97,7 +97,7 @@ impl BlockSoFar {
     fn add(&mut self, part: Part) -> Result<(), AllocError>
         requires { IsPartInRange (part_view part) }
         ensures { OnOk result
-            (block_told self.new ≡ told_with (block_told self.old) (part_view part)) }
+            (block_stated self.new ≡ stated_with (block_stated self.old) (part_view part)) }
     {
         match part {
             Part::Coordinate(y) => self.coordinate = Some(y),
@@ -113,7 +113,7 @@ impl BlockSoFar {
 
     /// The row of the block at its end, where it has what a row needs.
     pub fn row(self) -> Result<RowBlock, TextKind>
-        ensures { Gives row_entry result (row_of (block_told self)) }
+        ensures { Gives row_entry result (row_of (block_stated self)) }
     {
         match (self.coordinate, self.height, self.spacing.or(self.width)) {
             (Some(y), Some(height), Some(pitch)) => Ok(RowBlock {

@@ -1,10 +1,11 @@
 //! The lines of a `.scl` file.
 
 ghost use Rattle.std.specs.Prelude.{◌≡◌, map};
-ghost use Rattle.book_files.specs.Progress.{Gives};
-ghost use Rattle.book_files.specs.Words.{number_of};
+ghost use Rattle.book_files.specs.Forms.Progress.{Gives};
+ghost use Rattle.book_files.specs.Forms.Words.{number_of};
 ghost use Rattle.book_files.specs.Entries.{subrow_entry};
-ghost use Rattle.book_files.specs.Rows.{is_row_start, is_row_end, key_of, once_by, positive_of, is_subrow, subrow_of, subrow_at};
+ghost use Rattle.book_files.specs.Rows.{is_row_start, is_row_end};
+ghost use Rattle.book_files.specs.Forms.Rows.{key_of, once_by, positive_of, is_subrow, subrow_of, subrow_at};
 
 use crate::fault::TextKind;
 use crate::records::SubrowLine;
@@ -66,24 +67,24 @@ pub fn is_row_end(words: &[&[u8]]) -> bool
     }
 }
 
-/// The number of a keyed line of three words. It may stand once: `told` says that it stood before.
-pub fn once_number(told: bool, words: &[&[u8]]) -> Result<Micro, TextKind>
+/// The number of a keyed line of three words. It may stand once: `stood` says that it stood before.
+pub fn once_number(stood: bool, words: &[&[u8]]) -> Result<Micro, TextKind>
     ensures { Gives (λ number. number.0) result
-        (once_by number_of told (map (λ w. w.now) words.now)) }
+        (once_by number_of stood (map (λ w. w.now) words.now)) }
 {
     match words {
-        [_, _, number] if !told => number_of(number),
+        [_, _, number] if !stood => number_of(number),
         _ => Err(TextKind::BadLine),
     }
 }
 
 /// The same of a number above 0.
-pub fn once_positive(told: bool, words: &[&[u8]]) -> Result<Micro, TextKind>
+pub fn once_positive(stood: bool, words: &[&[u8]]) -> Result<Micro, TextKind>
     ensures { Gives (λ number. number.0) result
-        (once_by positive_of told (map (λ w. w.now) words.now)) }
+        (once_by positive_of stood (map (λ w. w.now) words.now)) }
 {
     match words {
-        [_, _, number] if !told => positive_of(number),
+        [_, _, number] if !stood => positive_of(number),
         _ => Err(TextKind::BadLine),
     }
 }

@@ -36,7 +36,7 @@ impl Model for Subrows {
 
 impl Subrows {
     /// No subrows.
-    pub fn new(alloc: Global) -> Subrows
+    pub(crate) fn new(alloc: Global) -> Subrows
         ensures { result ≡ [] }
     {
         Subrows {
@@ -45,7 +45,7 @@ impl Subrows {
     }
 
     /// One subrow more, behind the others.
-    pub fn push(&mut self, line: SubrowLine) -> Result<(), AllocError>
+    pub(crate) fn push(&mut self, line: SubrowLine) -> Result<(), AllocError>
         requires { IsSubrowInRange (subrow_entry line) }
         ensures { OnOk result (self.new ≡ self.old ++ subrow_entry line ∷ []) }
     {
@@ -113,7 +113,7 @@ pub fn read_scl(alloc: Global, bytes: &[u8]) -> Result<RowFile, ReadError>
     }
 }
 
-/// Whether the header was read, the number of rows that was told, the ended blocks, and the one that isn't ended.
+/// Whether the header was read, the number of rows that was stated, the ended blocks, and the one that isn't ended.
 #[derive(Drop)]
 struct RowsSoFar {
     alloc: Global,
@@ -124,7 +124,7 @@ struct RowsSoFar {
 }
 
 impl RowsSoFar {
-    ghost use Rattle.book_files.specs.RowProgress.{rows_end_fault};
+    ghost use Rattle.book_files.specs.Forms.RowProgress.{rows_end_fault};
 
     /// The fault where no line follows.
     fn fault(&self) -> Option<TextKind>
@@ -139,16 +139,19 @@ impl RowsSoFar {
         let found = self.blocks.len() as u64;
         match self.total {
             None => Some(TextKind::BadLine),
-            Some(told) if told != found => Some(TextKind::CountMismatch { told, found }),
+            Some(stated) if stated != found => Some(TextKind::CountMismatch {
+                told: stated,
+                found,
+            }),
             Some(_) => None,
         }
     }
 }
 
 impl<'a> Progress<'a> for RowsSoFar {
-    ghost use Rattle.book_files.specs.Progress.{StandsFor, Refuses};
-    ghost use Rattle.book_files.specs.Rows.{row_form};
-    ghost use Rattle.book_files.specs.RowProgress.{IsRowsSoFar};
+    ghost use Rattle.book_files.specs.Forms.Progress.{StandsFor, Refuses};
+    ghost use Rattle.book_files.specs.Forms.Rows.{row_form};
+    ghost use Rattle.book_files.specs.Forms.RowProgress.{IsRowsSoFar};
 
     ghost stands_for = { StandsFor row_form IsRowsSoFar };
 

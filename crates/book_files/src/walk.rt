@@ -3,7 +3,7 @@
 ghost use Rattle.std.specs.Prelude.{◌≡◌, ◌≤◌, [], map, length, OnOk};
 ghost use Rattle.book_text.specs.Lines.{words_of};
 ghost use Rattle.book_text.specs.Walk.{bytes_at};
-ghost use Rattle.book_files.specs.Progress.{Keeps, KeepsLines};
+ghost use Rattle.book_files.specs.Forms.Progress.{Keeps, KeepsLines};
 
 use crate::fault::{LineError, ReadError, TextFault};
 use book_text::{Span, next_line, next_word};

@@ -3,8 +3,9 @@ ghost use Rattle.std.specs.List.{AllByRecursion};
 ghost use Rattle.book_files.specs.Ranges.{IsWeightInRange};
 ghost use Rattle.book_files.specs.Grammar.{Answers};
 ghost use Rattle.book_files.specs.WeightRules.{weights_grammar};
-ghost use Rattle.book_files.specs.Progress.{Gives};
-ghost use Rattle.book_files.specs.Weights.{weighed, weight_of};
+ghost use Rattle.book_files.specs.Forms.Progress.{Gives};
+ghost use Rattle.book_files.specs.Weights.{weighed};
+ghost use Rattle.book_files.specs.Forms.Weights.{weight_of};
 ghost use Rattle.book_files.specs.Entries.{weight_entry, weight_entries};
 
 use crate::fault::{LineError, ReadError, TextKind, fault_at_end};
@@ -71,9 +72,9 @@ struct WeightsSoFar<'a> {
 }
 
 impl<'a> Progress<'a> for WeightsSoFar<'a> {
-    ghost use Rattle.book_files.specs.Progress.{StandsFor, Refuses};
-    ghost use Rattle.book_files.specs.Weights.{weight_form};
-    ghost use Rattle.book_files.specs.SoFar.{IsWeightsSoFar};
+    ghost use Rattle.book_files.specs.Forms.Progress.{StandsFor, Refuses};
+    ghost use Rattle.book_files.specs.Forms.Weights.{weight_form};
+    ghost use Rattle.book_files.specs.Forms.SoFar.{IsWeightsSoFar};
 
     ghost stands_for = { StandsFor weight_form IsWeightsSoFar };
 

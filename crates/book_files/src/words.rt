@@ -2,8 +2,9 @@
 
 ghost use Rattle.std.specs.Prelude.{◌≡◌, map};
 ghost use Rattle.std.specs.Char.{to_ascii_lowercase};
-ghost use Rattle.book_files.specs.Words.{is_keyword, is_colon_word, is_header, is_keyed, count_of, whole_of, number_of, size_of};
-ghost use Rattle.book_files.specs.Progress.{Gives};
+ghost use Rattle.book_files.specs.Words.{is_keyword, is_colon_word, is_header, is_keyed};
+ghost use Rattle.book_files.specs.Forms.Words.{count_of, whole_of, number_of, size_of};
+ghost use Rattle.book_files.specs.Forms.Progress.{Gives};
 
 use crate::fault::TextKind;
 use book_text::{Micro, read_micro, read_whole};
@@ -47,12 +48,12 @@ pub fn is_keyed(key: &[u8], words: &[&[u8]]) -> bool
     }
 }
 
-/// The number of a count line, which is keyed. It may stand once: `told` says that it stood before.
-pub fn count_of(told: bool, words: &[&[u8]]) -> Result<u64, TextKind>
-    ensures { Gives (λ n. n) result (count_of told (map (λ w. w.now) words.now)) }
+/// The number of a count line, which is keyed. It may stand once: `stood` says that it stood before.
+pub fn count_of(stood: bool, words: &[&[u8]]) -> Result<u64, TextKind>
+    ensures { Gives (λ n. n) result (count_of stood (map (λ w. w.now) words.now)) }
 {
     match words {
-        [_, _, number] if !told => whole_of(number),
+        [_, _, number] if !stood => whole_of(number),
         _ => Err(TextKind::BadLine),
     }
 }

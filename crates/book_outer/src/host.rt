@@ -265,6 +265,63 @@ mod tests {
         }
     }
 
+    // Gives two bytes at a read. The second read is interrupted, the fourth fails, the fifth wants memory, and the sixth is
+    // at the end.
+    #[derive(Drop)]
+    struct Stuttering {
+        reads: u8,
+    }
+
+    impl Read for Stuttering {
+        fn read(&mut self, buf: &mut [u8]) -> io::Result<usize> {
+            self.reads = self.reads.saturating_add(1);
+            match self.reads {
+                2 => Err(io::Error::from(ErrorKind::Interrupted)),
+                4 => Err(io::Error::from(ErrorKind::PermissionDenied)),
+                5 => Err(io::Error::from(ErrorKind::OutOfMemory)),
+                6 => Ok(0),
+                _ => Ok(buf.len().min(2)),
+            }
+        }
+    }
+
+    #[test]
+    fn an_interrupted_read_is_tried_again(rt: HostRuntime) {
+        let mut from = Stuttering { reads: 0 };
+        let mut buf = [0; 8];
+        assert!(rt; read_some(&mut from, &mut buf) == Ok(2));
+        assert!(rt; read_some(&mut from, &mut buf) == Ok(2));
+        assert!(rt; from.reads == 3);
+        assert!(rt; read_some(&mut from, &mut buf) == Err(Trouble::Failed));
+        assert!(rt; read_some(&mut from, &mut buf) == Err(Trouble::Memory));
+        assert!(rt; read_some(&mut from, &mut buf) == Ok(0));
+    }
+
+    #[test]
+    fn a_sink_over_a_writer_answers_its_faults(rt: HostRuntime) {
+        let mut sink = WriterSink {
+            to: Slow { writes: 0 },
+            faults: 0,
+        };
+        assert!(rt; sink.put(b"six of") == Ok(()));
+        assert!(rt; sink.put(b"six") == Err(Trouble::Failed));
+        assert!(rt; sink.put(b"six") == Err(Trouble::Memory));
+        assert!(rt; sink.faults == 1);
+    }
+
+    #[test]
+    fn an_open_file_is_closed_at_a_fault(rt: HostRuntime) {
+        let mut open = Some(Stuttering { reads: 3 });
+        let mut buf = [0; 8];
+        assert!(rt; read_open(&mut open, &mut buf) == Err(Trouble::Failed));
+        assert!(rt; open.is_none());
+        let mut open = Some(Stuttering { reads: 4 });
+        assert!(rt; read_open(&mut open, &mut buf) == Err(Trouble::Memory));
+        let mut open = Some(Slow { writes: 3 });
+        assert!(rt; put_open(&mut open, b"six") == Err(Trouble::Failed));
+        assert!(rt; open.is_none());
+    }
+
     #[test]
     fn pieces_are_written_until_a_fault(rt: HostRuntime) {
         let mut slow = Slow { writes: 0 };

@@ -163,3 +163,54 @@ fn a_real_file_is_read_back(rt: HostRuntime) -> Result<(), Fail> {
     StdSink::new(rt).put(b"to standard output")?;
     Ok(())
 }
+
+#[test]
+fn a_long_put_writes_all_bytes(rt: HostRuntime) -> Result<(), Fail> {
+    let name = "book_outer_long.test";
+    let long = vec![in rt.alloc(); b'x'; 100_000]?;
+    let mut folder = HostFolder::new(rt);
+    folder.create(name)?;
+    folder.put(&long)?;
+    let mut piece = vec![in rt.alloc(); 0; 65_536]?;
+    let mut bytes = 0;
+    folder.begin(name)?;
+    for _ in 0..100_000 {
+        let n = folder.read(&mut piece)?;
+        if n == 0 {
+            break;
+        }
+        bytes = n.saturating_add(bytes);
+    }
+    fs::remove_file(&rt, name)?;
+    assert_eq!(rt; bytes, 100_000);
+    Ok(())
+}
+
+#[test]
+fn a_folder_is_not_read_as_a_file(rt: HostRuntime) -> Result<(), Fail> {
+    let name = "book_outer_folder.test";
+    fs::create_dir(&rt, name)?;
+    let mut folder = HostFolder::new(rt);
+    let mut buf = [0; 8];
+    let answer = match folder.begin(name) {
+        Ok(()) => folder.read(&mut buf).map(|_| ()),
+        Err(trouble) => Err(trouble),
+    };
+    fs::remove_dir(&rt, name)?;
+    assert!(rt; answer == Err(Trouble::Failed));
+    Ok(())
+}
+
+#[test]
+fn a_blank_is_part_of_a_name(rt: HostRuntime) -> Result<(), Fail> {
+    let mut folder = HostFolder::new(rt);
+    make_file(&mut folder, "book_outer_blank.test ")?;
+    assert!(rt; folder.begin("book_outer_blank.test") == Err(Trouble::Failed));
+    folder.begin("book_outer_blank.test ")?;
+    fs::remove_file(&rt, "book_outer_blank.test ")?;
+    fs::write(&rt, "book_outer_blank.test", b"another")?;
+    let answer = folder.begin("book_outer_blank.test ");
+    fs::remove_file(&rt, "book_outer_blank.test")?;
+    assert!(rt; answer == Err(Trouble::Failed));
+    Ok(())
+}

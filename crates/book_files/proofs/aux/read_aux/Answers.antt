@@ -1,5 +1,5 @@
 use Rattle.std.proofs.Common.{rules, Ok, Err}
-use Rattle.book_files.specs.Aux.{aux_form}
+use Rattle.book_files.specs.Forms.Aux.{aux_form}
 use Rattle.book_files.specs.AuxRules.{aux_grammar}
 use Rattle.book_files.specs.Entries.{aux_entry}
 use Rattle.book_files.proofs.Bridge.{answers_of}

@@ -1,6 +1,6 @@
 use Rattle.std.proofs.Common.{ℕ, ◌<◌, ◌≤◌, List, length, take, vec_len, ap, ◌∙◌, arith}
 use Rattle.std.proofs.lemmas.List.{length-take-le}
-use Rattle.book_files.specs.Loading.{most_bytes}
+use Rattle.book_files.specs.declared.loading.TheConstants.{MOST_BYTES}
 use Rattle.book_files.proofs.Pieces.{IsFront-begin, IsSome-front, IsFront-read, content-end, take-lent, room-falls}
 use Rattle.book_files.proofs.loading.load.Goals as goal
 
@@ -14,6 +14,7 @@ pieces-init g c =
       writing = c.begin.ensures.writing;
       missed = c.begin.ensures.missed;
       begun = c.begin.ensures.begun;
+      reads = omega (arith, c.new-bytes.ensures.len, c.begin.ensures.counted);
       read_faults = c.in_ok-begin.ensures.cause.kept (λ e. cc);
       write_faults = c.begin.ensures.write_faults;
     }
@@ -22,7 +23,7 @@ pub pieces-smaller : goal.pieces-smaller
 pieces-smaller g c =
     let count : c.in_ok-count.count ≤ length c.deref.result.now = omega (arith, c.in_ok-count.ensures.reads.0, c.deref.ensures.len, c.deref_mut.ensures.len) in
     let more : vec_len c.pieces.bytes < vec_len c.extend_from_slice.new.self = omega (arith, c.in_ok-extend_from_slice.ensures.len, length-take-le _ c.deref.result.now count) in
-    room-falls most_bytes (vec_len c.pieces.bytes) (vec_len c.extend_from_slice.new.self) more c.pieces.invariant.within
+    room-falls MOST_BYTES (vec_len c.pieces.bytes) (vec_len c.extend_from_slice.new.self) more c.pieces.invariant.within
 
 pub pieces-preserved : goal.pieces-preserved
 pieces-preserved g c =
@@ -35,6 +36,7 @@ pieces-preserved g c =
       writing = c.read.ensures.writing ∙ c.pieces.invariant.writing;
       missed = c.read.ensures.missed ∙ c.pieces.invariant.missed;
       begun = c.read.ensures.begun ∙ c.pieces.invariant.begun;
+      reads = let count : c.in_ok-count.count ≤ length c.deref.result.now = omega (arith, c.in_ok-count.ensures.reads.0, c.deref.ensures.len, c.deref_mut.ensures.len) in omega (arith, c.read.ensures.counted, c.in_ok-extend_from_slice.ensures.len, length-take-le _ c.deref.result.now count, c.pieces.invariant.reads);
       read_faults = c.in_ok-count.ensures.cause.kept (λ e. cc) ∙ c.pieces.invariant.read_faults;
       write_faults = c.read.ensures.write_faults ∙ c.pieces.invariant.write_faults;
     }

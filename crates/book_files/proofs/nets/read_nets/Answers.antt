@@ -1,6 +1,6 @@
 use Rattle.std.proofs.Common.{List, Ok, Err, rules, arith}
 use Rattle.book_files.specs.Entries.{NetEntry}
-use Rattle.book_files.specs.Nets.{net_form}
+use Rattle.book_files.specs.Forms.Nets.{net_form}
 use Rattle.book_files.specs.NetRules.{nets_grammar}
 use Rattle.book_files.proofs.Bridge.{answers_of}
 use Rattle.book_files.proofs.NetDecides.{nets_decided}

@@ -1,7 +1,7 @@
 use Rattle.std.proofs.Common.{rules, arith, List, Ok, Err}
 use Rattle.std.proofs.lemmas.Grind.{common_steps}
 use Rattle.book_files.specs.Entries.{NodeEntry, node_entries}
-use Rattle.book_files.specs.Nodes.{node_form}
+use Rattle.book_files.specs.Forms.Nodes.{node_form}
 use Rattle.book_files.specs.NodeRules.{nodes_grammar}
 use Rattle.book_files.proofs.Bridge.{answers_of}
 use Rattle.book_files.proofs.NodeDecides.{nodes_decided}

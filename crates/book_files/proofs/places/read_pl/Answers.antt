@@ -1,6 +1,6 @@
 use Rattle.std.proofs.Common.{rules, List, Ok, Err}
 use Rattle.book_files.specs.Entries.{PlaceEntry, place_entries}
-use Rattle.book_files.specs.Places.{place_form}
+use Rattle.book_files.specs.Forms.Places.{place_form}
 use Rattle.book_files.specs.PlaceRules.{places_grammar}
 use Rattle.book_files.proofs.Bridge.{answers_of}
 use Rattle.book_files.proofs.PlaceDecides.{places_decided}

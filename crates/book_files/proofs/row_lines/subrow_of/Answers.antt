@@ -1,6 +1,6 @@
 use Rattle.std.proofs.Common.{arith, sym, ◌∙◌}
 use Rattle.std.proofs.lemmas.Bool.{ltb-true, ltb-false}
-use Rattle.book_files.specs.Progress.{Gives}
+use Rattle.book_files.specs.Forms.Progress.{Gives}
 use Rattle.book_files.specs.Entries.{subrow_entry}
 use Rattle.book_files.proofs.RowLines.{subrow_of-six, subrow_of-short, subrow_of-long}
 use Rattle.book_files.proofs.row_lines.subrow_of.Goals as goal

@@ -3,7 +3,7 @@ use Rattle.book_text.specs.Lines.{end_line}
 use Rattle.book_files.specs.declared.fault.ReadError.TheVariants.{Fault}
 use Rattle.book_files.specs.Entries.{RowEntry}
 use Rattle.book_files.specs.Blocks.{row_entries}
-use Rattle.book_files.specs.Rows.{row_form}
+use Rattle.book_files.specs.Forms.Rows.{row_form}
 use Rattle.book_files.specs.RowRules.{rows_grammar}
 use Rattle.book_files.proofs.Bridge.{answers_of}
 use Rattle.book_files.proofs.RowDecides.{rows_decided}

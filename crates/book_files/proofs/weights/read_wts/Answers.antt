@@ -1,6 +1,6 @@
 use Rattle.std.proofs.Common.{rules, List, Ok, Err}
 use Rattle.book_files.specs.Entries.{WeightEntry, weight_entries}
-use Rattle.book_files.specs.Weights.{weight_form}
+use Rattle.book_files.specs.Forms.Weights.{weight_form}
 use Rattle.book_files.specs.WeightRules.{weights_grammar}
 use Rattle.book_files.proofs.Bridge.{answers_of}
 use Rattle.book_files.proofs.WeightDecides.{weights_decided}

@@ -1,6 +1,6 @@
 use Rattle.std.proofs.Common.{refl, ap, ◌++◌, ◌∙◌}
 use Rattle.book_files.specs.Blocks.{net_entries}
-use Rattle.book_files.specs.NetsSoFar.{head_entry, open_entries}
+use Rattle.book_files.specs.Forms.NetsSoFar.{head_entry, open_entries}
 use Rattle.book_files.proofs.nets.NetsSoFar.begin.Goals as goal
 
 pub returns : goal.returns

@@ -8,12 +8,14 @@ use Rattle.book_files.specs.declared.fault.LineError.TheVariants.{Kind, Memory}
 use Rattle.book_files.specs.declared.nets.Head.{Head}
 use Rattle.book_files.specs.declared.nets.OpenNet.{OpenNet}
 use Rattle.book_files.specs.declared.nets.NetsSoFar.{NetsSoFar}
-use Rattle.book_files.specs.Words.{◌>>=◌, latest}
+use Rattle.book_files.specs.Words.{latest}
+use Rattle.book_files.specs.Forms.Words.{◌>>=◌}
 use Rattle.book_files.specs.Groups.{Group}
 use Rattle.book_files.specs.Entries.{PinEntry, NetEntry}
 use Rattle.book_files.specs.Blocks.{net_entries}
-use Rattle.book_files.specs.Nets.{NetHead, NetItem, net, pin, total_in, pin_total_in, pin_in, nets_in, open_net, unless_short, head_of, pin_behind, entry_of_net}
-use Rattle.book_files.specs.SoFar.{has_items}
+use Rattle.book_files.specs.Nets.{NetHead, NetItem, net, pin, total_in, pin_total_in, pin_in, nets_in, open_net, entry_of_net}
+use Rattle.book_files.specs.Forms.Nets.{unless_short, head_of, pin_behind}
+use Rattle.book_files.specs.Forms.SoFar.{has_items}
 
 abbrev pub head_entry : Head → NetHead
 head_entry head = record { degree = head.degree; name = option_map (λ name. name.0.now) head.name }
@@ -41,11 +43,11 @@ pub record IsNetsSoFar (items : List NetItem) (so_far : NetsSoFar) : Type 0 wher
   pub nets : nets_in items ≡ front ++ option_to_list (option_map open_group so_far.current)
   pub closed : net_entries so_far.closed.items ≡ map entry_of_net front
 
--- as many were found as were told
+-- as many were found as were stated
 abbrev pub counted : ℕ → ℕ → Result (Unit {0}) TextKind
-counted told found = if told == found then Ok tt else Err (CountMismatch told found)
+counted stated found = if stated == found then Ok tt else Err (CountMismatch stated found)
 
--- both counts were told, and are right
+-- both counts were stated, and are right
 abbrev pub both_counted : Option ℕ → Option ℕ → ℕ → ℕ → Result (Unit {0}) TextKind
 both_counted None pin_total nets pins = Err BadLine
 both_counted (Some n) None nets pins = Err BadLine

@@ -25,15 +25,15 @@ IsAuxSoFar items so_far = items ≡ option_to_list (option_map aux_entry so_far.
 pub record IsNodesSoFar (items : List NodeItem) (so_far : NodesSoFar) : Type 0 where
   pub begun : so_far.begun ≡ has_items items
   pub total : so_far.total ≡ latest total_in items
-  pub terminals : so_far.terminals_told ≡ is_some (latest terminals_in items)
+  pub terminals : so_far.terminals_stated ≡ is_some (latest terminals_in items)
   pub lines : node_entries so_far.lines.items ≡ filter_map node_in items
 
 -- the fault where no line follows, if there is one
 abbrev pub end_fault : NodesSoFar → Option TextKind
-end_fault so_far = if so_far.begun then told_fault so_far.total so_far.lines.items else Some BadHeader where
-  told_fault : Option ℕ → List NodeLine → Option TextKind
-  told_fault None lines = Some BadLine
-  told_fault (Some n) lines = if n == length lines then None else Some (CountMismatch n (length lines))
+end_fault so_far = if so_far.begun then stated_fault so_far.total so_far.lines.items else Some BadHeader where
+  stated_fault : Option ℕ → List NodeLine → Option TextKind
+  stated_fault None lines = Some BadLine
+  stated_fault (Some n) lines = if n == length lines then None else Some (CountMismatch n (length lines))
 
 pub record IsWeightsSoFar (items : List WeightItem) (so_far : WeightsSoFar) : Type 0 where
   pub begun : so_far.begun ≡ has_items items

@@ -1,24 +1,10 @@
--- The reading of a whole text, and its first fault. A kind of file says what a line means behind the lines before it, and what
--- all lines make; the two relations are told of whole texts.
+-- The reading of a whole text by a form, and its first fault.
 use Rattle.std.specs.Prelude.{◌≡◌, ◌⊎◌, ℕ, List, [], ◌∷◌, ◌++◌, Result, Ok, Err}
 use Rattle.book_text.specs.Lines.{NumberedLine, content_of, end_line}
-use Rattle.book_files.specs.declared.fault.TextKind.{TextKind}
 use Rattle.book_files.specs.declared.fault.TextFault.{TextFault}
 use Rattle.book_files.specs.declared.fault.ReadError.{ReadError}
 use Rattle.book_files.specs.declared.fault.ReadError.TheVariants.{Fault, Memory}
-
--- A kind of file: what a line is, behind the items of the lines before it, or its first fault; and what all items make, or the
--- first fault that is seen at the end of the text.
-pub record Form (I R : Type 0) : Type 0 where
-  pub meaning : List I → NumberedLine → Result I TextKind
-  pub ending : List I → Result R TextKind
-
--- the items are what the lines mean, one after another, behind the items before them
-abbrev pub Mean : {I R : Type 0} → Form I R → List I → List NumberedLine → List I → Type 0
-Mean form before [] [] = Unit {0}
-Mean form before [] (item ∷ items) = ⊥
-Mean form before (line ∷ lines) [] = ⊥
-Mean form before (line ∷ lines) (item ∷ items) = (form.meaning before line ≡ Ok item) × Mean form (before ++ item ∷ []) lines items
+use Rattle.book_files.specs.Forms.Form.{Form, Mean}
 
 -- the text reads as these records
 pub record Reads {I R : Type 0} (form : Form I R) (text : List ℕ) (records : R) : Type 0 where

@@ -1,7 +1,7 @@
 -- What a reader has of the lines before, whatever the kind of file, and what a walk over the lines of a text leaves.
 use Rattle.std.specs.Prelude.{◌≡◌, ℕ, List, [], ◌∷◌, ◌++◌, Result, Ok, Err}
 use Rattle.book_text.specs.Lines.{NumberedLine, content_of}
-use Rattle.book_files.specs.Form.{Form, Mean}
+use Rattle.book_files.specs.Forms.Form.{Form, Mean}
 use Rattle.book_files.specs.declared.fault.TextKind.{TextKind}
 use Rattle.book_files.specs.declared.fault.TextFault.{TextFault}
 use Rattle.book_files.specs.declared.fault.ReadError.{ReadError}

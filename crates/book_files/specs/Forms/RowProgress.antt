@@ -16,8 +16,9 @@ use Rattle.book_files.specs.Groups.{Group}
 use Rattle.book_files.specs.Entries.{subrow_entry}
 use Rattle.book_files.specs.Blocks.{row_entries}
 use Rattle.book_files.specs.Ranges.{IsInRange, IsSubrowInRange, IsRowInRange}
-use Rattle.book_files.specs.SoFar.{has_items}
-use Rattle.book_files.specs.Rows.{RowPart, coordinate, height, site_width, site_spacing, site_orient, site_symmetry, subrow, ended, RowItem, total_in, end_in, has, open_in, blocks_in, entry_of_row, BlockTold, told_by, told_with, inner_of}
+use Rattle.book_files.specs.Forms.SoFar.{has_items}
+use Rattle.book_files.specs.Rows.{RowPart, coordinate, height, site_width, site_spacing, site_orient, site_symmetry, subrow, ended, RowItem, total_in, end_in, has, open_in, blocks_in, entry_of_row}
+use Rattle.book_files.specs.Forms.Rows.{BlockStated, stated_by, stated_with, inner_of}
 
 abbrev pub part_view : Part → RowPart
 part_view (Coordinate y) = coordinate y.0
@@ -28,8 +29,8 @@ part_view SiteOrient = site_orient
 part_view SiteSymmetry = site_symmetry
 part_view (Subrow line) = subrow (subrow_entry line)
 
-abbrev pub block_told : BlockSoFar → BlockTold
-block_told b = record {
+abbrev pub block_stated : BlockSoFar → BlockStated
+block_stated b = record {
   y = option_map (λ n. n.0) b.coordinate;
   height = option_map (λ n. n.0) b.height;
   width = option_map (λ n. n.0) b.width;
@@ -53,7 +54,7 @@ IsPartInRange site_symmetry = Unit {0}
 IsPartInRange (subrow entry) = IsSubrowInRange entry
 IsPartInRange ended = Unit {0}
 
-pub record IsToldInRange (t : BlockTold) : Type 0 where
+pub record IsStatedInRange (t : BlockStated) : Type 0 where
   pub y : IfSome t.y IsInRange
   pub height : IfSome t.height IsPositiveInRange
   pub width : IfSome t.width IsPositiveInRange
@@ -61,16 +62,16 @@ pub record IsToldInRange (t : BlockTold) : Type 0 where
   pub subrows : AllByRecursion IsSubrowInRange t.subrows
 
 -- the block has this line more
-pub record HasPart (told : BlockTold) (words : List (List ℕ)) (block : BlockSoFar) : Type 0 where
+pub record HasPart (stated : BlockStated) (words : List (List ℕ)) (block : BlockSoFar) : Type 0 where
   pub part : RowPart
-  pub means : inner_of told words ≡ Ok part
-  pub more : block_told block ≡ told_with told part
+  pub means : inner_of stated words ≡ Ok part
+  pub more : block_stated block ≡ stated_with stated part
 
--- the block has the line more, or the line's first fault is told
-abbrev pub IsOneMore : BlockTold → List (List ℕ) → Result BlockSoFar LineError → Type 0
-IsOneMore told words (Ok block) = HasPart told words block
-IsOneMore told words (Err (Kind kind)) = inner_of told words ≡ Err kind
-IsOneMore told words (Err Memory) = Unit {0}
+-- the block has the line more, or the line's first fault is named
+abbrev pub IsOneMore : BlockStated → List (List ℕ) → Result BlockSoFar LineError → Type 0
+IsOneMore stated words (Ok block) = HasPart stated words block
+IsOneMore stated words (Err (Kind kind)) = inner_of stated words ≡ Err kind
+IsOneMore stated words (Err Memory) = Unit {0}
 
 -- the last of the groups is the open block, and the others are the rows
 pub record HasOpen (block : BlockSoFar) (groups : List (Group (Unit {0}) RowPart)) (rows : List RowBlock) : Type 0 where
@@ -78,9 +79,9 @@ pub record HasOpen (block : BlockSoFar) (groups : List (Group (Unit {0}) RowPart
   pub parts : List RowPart
   pub split : groups ≡ before ++ record { head = tt; parts = parts } ∷ []
   pub ended : row_entries rows ≡ map entry_of_row before
-  pub told : block_told block ≡ told_by parts
+  pub stated : block_stated block ≡ stated_by parts
   pub goes_on : has end_in parts ≡ false
-  pub range : IsToldInRange (told_by parts)
+  pub range : IsStatedInRange (stated_by parts)
 
 -- all of the groups are the rows
 pub record AreEnded (groups : List (Group (Unit {0}) RowPart)) (rows : List RowBlock) : Type 0 where
