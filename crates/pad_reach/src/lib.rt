@@ -10,11 +10,13 @@
 //! The contract: `reach` meets `Reaches`, and its refusal is `IsFirstUnanchored`.
 #![tactic(auto)]
 
+mod laws;
 mod search;
 mod steps;
 mod tellers;
 mod web;
 
+pub use laws::reach_leads;
 pub use search::{ReachError, reach};
 pub use steps::Reach;
 pub use web::Web;
