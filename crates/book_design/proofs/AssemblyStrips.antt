@@ -10,7 +10,7 @@ use Rattle.book_design.specs.declared.rules.TheConstants.{MOST_NODES, MOST_SITES
 use Rattle.book_design.specs.declared.strips.Strip.{Strip as Kept}
 use Rattle.book_design.specs.Records.{Records, Strip, strip_of, strips_from, strips, strip_at, row_at}
 use Rattle.book_design.specs.Faults.{IsMixedRow}
-use Rattle.book_design.specs.Forms.Parts.{outline, outlines, kept_at}
+use Rattle.book_design.specs.Forms.Parts.{outlines}
 use Rattle.book_design.specs.Forms.Assembly.{IsNarrow, AreNarrow, HasSiteBefore}
 use Rattle.book_design.specs.Forms.Sources.{AreInRange}
 use Rattle.book_design.specs.Forms.Steps.{IsSound}

@@ -4,9 +4,7 @@ use Rattle.std.proofs.lemmas.List.{get_or-map, length-map}
 use Rattle.std.proofs.lemmas.List.Concat.{length-flat_map}
 use Rattle.std.proofs.lemmas.List.Sums.{sum_by_more, sum_by_more_le}
 use Rattle.std.specs.Prelude.{sum_by, fold}
-use Rattle.book_files.specs.declared.records.NetBlock.{NetBlock}
 use Rattle.book_files.specs.Entries.{NodeEntry, PlaceEntry, NetEntry}
-use Rattle.book_files.specs.Blocks.{net_entries}
 use Rattle.book_files.specs.Ranges.{pin_count}
 use Rattle.book_design.specs.declared.rules.TheConstants.{MOST_NODES, MOST_PINS, MOST_SUBROWS}
 use Rattle.book_design.specs.declared.parts.Node.{Node}
@@ -78,22 +76,6 @@ pub none_tall : (records : Records) (shape : RowShape) (nodes : List NodeValue) 
 none_tall records shape nodes s e none =
     let P : List NodeValue → Type 0 = λ vs. (i : ℕ) → IsHigher vs shape.height i → ⊥ in
     λ i tall. subst P e none i (tall_is_higher records shape i s tall)
-
-abbrev block_pins : NetBlock → ℕ
-block_pins block = length block.pins
-
-counted_from : (n : ℕ) (nets : List NetBlock)
-    → fold (λ m (net : NetEntry). m + length net.pins) n (net_entries nets) ≡ fold (λ m (net : NetBlock). m + length net.pins) n nets
-counted_from n [] = refl
-counted_from n (net ∷ nets) = counted_from (n + length net.pins) nets
-
-counted : (nets : List NetBlock) → pin_count (net_entries nets) ≡ sum_by block_pins nets
-counted nets = counted_from 0 nets
-
-pub pins_within : (nets : List NetBlock) (n : ℕ) (d : NetBlock) (net : NetBlock) → n < length nets → net ≡ get_or nets n d
-    → pin_count (net_entries (take n nets)) + length net.pins ≤ pin_count (net_entries nets)
-pins_within nets n d net below e =
-    rw (counted (take n nets), counted nets, e) (sum_by_more_le block_pins nets n d below)
 
 pub pin_lines_counted : (records : Records) → length (pin_lines records) ≡ pin_count records.nets
 pin_lines_counted records = length-flat_map (λ (net : NetEntry). net.pins) records.nets

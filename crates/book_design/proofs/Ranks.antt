@@ -8,9 +8,9 @@ use Rattle.book_design.specs.declared.fault.JoinError.{JoinError}
 use Rattle.book_design.specs.declared.fault.JoinError.TheVariants as errors
 use Rattle.book_design.specs.declared.rules.TheConstants.{MOST_NODES, MOST_PINS, MOST_SUBROWS}
 use Rattle.book_design.specs.Records.{Records, node_at, pin_at, pin_lines, strips, strip_at}
-use Rattle.book_design.specs.Faults.{IsFirst, HasEarlierName, IsUnknownPin, IsUnknownPlace, IsWithoutPlace, IsMixedRow, IsOverlapping, IsTall, HasManySites, HasBadWeight, IsPastEnd, IsFault, IsPastLimit, IsFirstFault, HasNoFault, rank}
+use Rattle.book_design.specs.Faults.{IsFirst, HasEarlierName, IsUnknownPin, IsWithoutPlace, IsMixedRow, IsOverlapping, IsTall, HasManySites, HasBadWeight, IsPastEnd, IsFault, IsPastLimit, IsFirstFault, HasNoFault, rank}
 use Rattle.book_design.specs.Values.{DesignValue}
-use Rattle.book_design.specs.Joined.{HasSite, Joins, place_at}
+use Rattle.book_design.specs.Joined.{HasSite, Joins}
 use Rattle.book_design.specs.Answers.{Answers}
 use Rattle.book_design.specs.Forms.Steps.{HasKnownNames, IsFreeFrom, IsFirstFrom, Stops}
 

@@ -9,14 +9,14 @@ use Rattle.book_design.specs.declared.fault.DesignFault.TheVariants.{DuplicateNa
 use Rattle.book_design.specs.declared.rules.TheConstants.{MOST_NODES, MOST_PINS, MOST_SUBROWS, MOST_SITES, ROWS_END}
 use Rattle.book_design.specs.declared.parts.Core.{Core}
 use Rattle.book_design.specs.Records.{Records, Strip, node_at, pin_at, pin_lines, row_at, net_at, strips, strip_in, strip_at}
-use Rattle.book_design.specs.Faults.{IsFirst, HasEarlierName, IsUnknown, IsUnknownPin, IsUnknownPlace, IsWithoutPlace, IsMixedRow, ShareArea, IsOverlapping, IsTall, HasManySites, IsWholeWeight, HasBadWeight, IsPastEnd, IsFault, IsFirstFault, HasNoFault, rank}
-use Rattle.book_design.specs.Joined.{place_at, is_fixed, weight_of, joined_node, joined_net, joined_subrow, HasSite, HasEnd, IsCore, Joins}
+use Rattle.book_design.specs.Faults.{HasEarlierName, IsUnknown, IsUnknownPin, IsUnknownPlace, IsWithoutPlace, IsMixedRow, ShareArea, IsOverlapping, IsTall, HasManySites, HasBadWeight, IsPastEnd, IsFault, IsFirstFault, HasNoFault, rank}
+use Rattle.book_design.specs.Joined.{place_at, is_fixed, weight_of, joined_node, joined_net, joined_subrow, HasSite, HasEnd, IsCore}
 use Rattle.book_design.specs.Values.{DesignValue}
 use Rattle.book_design.specs.Answers.{IsJoined}
-use Rattle.book_design.specs.Forms.Steps.{HasKnownNames, IsFreeFrom, IsFirstFrom}
+use Rattle.book_design.specs.Forms.Steps.{IsFreeFrom}
 use Rattle.book_design.proofs.Deciding.{IsDecided, decided_by, decided_both, decided_either, decided_not, decide_less, decide_less_int, decide_same_int, decide_name, decide_flag, decide_some, first_or_none}
 use Rattle.book_design.proofs.ValuesWithin.{whole_or_none}
-use Rattle.book_design.proofs.Ranks.{first_after, first_fault, first_later, no_fault, free_names, free_known, free_placed, free_some, free_even, free_apart, free_tall, free_nodes, free_pins, free_subrows, free_sites, free_weights, free_ends, free_both}
+use Rattle.book_design.proofs.Ranks.{first_after, first_fault, no_fault, free_names, free_known, free_placed, free_some, free_even, free_apart, free_tall, free_nodes, free_pins, free_subrows, free_sites, free_weights, free_ends, free_both}
 
 decide_earlier : (records : Records) (i : ℕ) → IsDecided (HasEarlierName records i)
 decide_earlier records i = decided_by
@@ -48,10 +48,11 @@ decide_shared a b = decided_by
     (λ h. record { a_wide = h.0.0; b_wide = h.0.1; a_high = h.1.0; b_high = h.1.1; left_right = h.2.0; right_left = h.2.1; lower_upper = h.3.0; upper_lower = h.3.1 })
     (λ h. ((h.a_wide, h.b_wide), (h.a_high, h.b_high), (h.left_right, h.right_left), (h.lower_upper, h.upper_lower)))
     (four (two (decide_less_int a.left a.right) (decide_less_int b.left b.right)) (two (decide_less_int a.lower a.upper) (decide_less_int b.lower b.upper)) (two (decide_less_int a.left b.right) (decide_less_int b.left a.right)) (two (decide_less_int a.lower b.upper) (decide_less_int b.lower a.upper))) where
-  two : {A B : Type 0} → IsDecided A → IsDecided B → IsDecided (A × B)
-  two x y = decided_both x y
-  four : {A B C D : Type 0} → IsDecided A → IsDecided B → IsDecided C → IsDecided D → IsDecided (A × B × C × D)
-  four w x y z = decided_by (λ h. (h.0.0, h.0.1, h.1.0, h.1.1)) (λ h. ((h.0, h.1), (h.2, h.3))) (decided_both (decided_both w x) (decided_both y z))
+      two : {A B : Type 0} → IsDecided A → IsDecided B → IsDecided (A × B)
+      two x y = decided_both x y
+
+      four : {A B C D : Type 0} → IsDecided A → IsDecided B → IsDecided C → IsDecided D → IsDecided (A × B × C × D)
+      four w x y z = decided_by (λ h. (h.0.0, h.0.1, h.1.0, h.1.1)) (λ h. ((h.0, h.1), (h.2, h.3))) (decided_both (decided_both w x) (decided_both y z))
 
 decide_overlap : (all : List Strip) (s : ℕ) → IsDecided (IsOverlapping all s)
 decide_overlap all s = decided_by
@@ -109,24 +110,27 @@ some_core records some =
     let left = low_end records (λ strip. strip.left) some in
     let right = high_end records (λ strip. strip.right) some in
     let lower = low_end records (λ strip. strip.lower) some in
-    let upper = high_end records (λ strip. strip.upper) some in
-    (record { xlo = left.0; xhi = right.0; ylo = lower.0; yhi = upper.0 },
-    record { left = left.1; right = right.1; lower = lower.1; upper = upper.1; at_left = left.2; at_right = right.2; at_lower = lower.2; at_upper = upper.2 })
+    let upper = high_end records (λ strip. strip.upper) some in (
+      record { xlo = left.0; xhi = right.0; ylo = lower.0; yhi = upper.0 },
+      record { left = left.1; right = right.1; lower = lower.1; upper = upper.1; at_left = left.2; at_right = right.2; at_lower = lower.2; at_upper = upper.2 },
+    )
 
 made : (records : Records) → HasNoFault records → (s : ℕ) × HasSite records s → (design : DesignValue) × IsJoined records design
 made records none some =
-    let core = some_core records some in
-    (record {
-      nodes = map (joined_node records) records.nodes;
-      nets = map (joined_net records) records.nets;
-      subrows = map joined_subrow (strips records);
-      core = core.0;
-      pitch = (row_at records 0).pitch;
-      row_height = (row_at records 0).height;
-    }, record {
-      joins = record { nodes = refl; nets = refl; subrows = refl; core = core.1; pitch = refl; row_height = refl };
-      none = none;
-    })
+    let core = some_core records some in (
+      record {
+        nodes = map (joined_node records) records.nodes;
+        nets = map (joined_net records) records.nets;
+        subrows = map joined_subrow (strips records);
+        core = core.0;
+        pitch = (row_at records 0).pitch;
+        row_height = (row_at records 0).height;
+      },
+      record {
+        joins = record { nodes = refl; nets = refl; subrows = refl; core = core.1; pitch = refl; row_height = refl };
+        none = none;
+      },
+    )
 
 -- a fault before which the ranks are free
 abbrev IsStopped : Records → Type 0

@@ -42,7 +42,11 @@ pub(crate) fn net_weights(
 }
 
 /// The net's weight where it is a whole number from 0 to 65,535.
-fn net_weight<'a>(records: &Sources<'_, 'a>, numbers: &Numbers<'a>, net: &NetBlock<'a>) -> Option<u32>
+fn net_weight<'a>(
+    records: &Sources<'_, 'a>,
+    numbers: &Numbers<'a>,
+    net: &NetBlock<'a>,
+) -> Option<u32>
     requires { AreNumbers (weight_name (records_of records.now)) (length (weight_lines (records_of records.now))) numbers.now }
     ensures { result ≡ whole_weight (weight_of (records_of records.now) (net_entry net.now)) }
 {

@@ -1,9 +1,7 @@
 //! The rows and their subrows.
 
 ghost use Rattle.std.specs.Prelude.{◌≡◌, ℕ, ◌<◌, ◌^◌, ◌++◌, length, IfOk, OnOk, MatchBool, MatchOption, MatchResult};
-ghost use Rattle.std.specs.List.{AllByRecursion};
 ghost use Rattle.book_design.specs.Forms.Steps.{IsFirstFrom, Stops};
-ghost use Rattle.book_design.specs.Forms.Strips.{IsStripInRange};
 ghost use Rattle.book_design.specs.Forms.Sources.{records_of, AreInRange};
 ghost use Rattle.book_design.specs.Forms.Parts.{outline, outlines, IsShape};
 ghost use Rattle.book_design.specs.Records.{strip_of, strips as all_strips};
@@ -67,7 +65,10 @@ fn strip_in(number: u32, row: &RowBlock, subrow: &SubrowLine) -> Strip
 }
 
 /// The shape of all rows, where some subrow has a site and each row has that shape.
-pub(crate) fn even_rows(records: &Sources<'_, '_>, strips: &[Strip]) -> Result<RowShape, DesignFault>
+pub(crate) fn even_rows(
+    records: &Sources<'_, '_>,
+    strips: &[Strip],
+) -> Result<RowShape, DesignFault>
     requires few_rows { length (records_of records.now).rows < 2 ^ 32 }
     requires strips { strips.now ≡ outlines (records_of records.now) }
     ensures { MatchResult result (IsEven (records_of records.now)) (IsFirstFrom (records_of records.now) 4) }

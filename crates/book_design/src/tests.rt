@@ -608,25 +608,3 @@ fn subrows_without_sites_count(rt: HostRuntime) {
         assert_eq!(rt; fault_of(&rt, rt.alloc(), &texts), fault);
     }
 }
-
-/// One net with so many pins, all of one node.
-fn crowded_net(alloc: Global, header: &[u8], pins: u32) -> Result<Vec<u8>, AllocError> {
-    let mut text = Vec::new(alloc);
-    text.extend_from_slice(header)?;
-    for _ in 0..pins {
-        text.extend_from_slice(b"a\n")?;
-    }
-    Ok(text)
-}
-
-#[test]
-fn too_many_pins_are_named(rt: HostRuntime) {
-    let header = b"UCLA nets 1.0\nNumNets : 1\nNumPins : 16777217\nNetDegree : 16777217\n";
-    let nets = crowded_net(rt.alloc(), header, 16_777_217).expect(&rt, "memory");
-    let texts = Texts { nets: &nets, ..A };
-    let fault = DesignFault::Limit {
-        kind: 2,
-        number: 16_777_217,
-    };
-    assert_eq!(rt; fault_of(&rt, rt.alloc(), &texts), Some(fault));
-}

@@ -1,7 +1,7 @@
 -- Parts of a design, as the steps of the join make them.
 use Rattle.std.specs.Prelude.{◌≡◌, ◌≢◌, ◌⊎◌, ℕ, ◌/◌, ◌%◌, ◌<◌, ◌==◌, nat_le, List, [], length, map, Option, Some, None, unwrap_or, if◌then◌else◌, ℤ, pos, negsuc, slice_index_or}
 use Rattle.book_files.specs.declared.records.FileKind.TheVariants.{Nets}
-use Rattle.book_files.specs.Entries.{NetEntry, PinEntry, RowEntry}
+use Rattle.book_files.specs.Entries.{NetEntry, PinEntry}
 use Rattle.book_design.specs.declared.rules.TheConstants.{MOST_NET_WEIGHT}
 use Rattle.book_design.specs.declared.fault.JoinError.{JoinError}
 use Rattle.book_design.specs.declared.fault.JoinError.TheVariants.{Fault, Memory}
@@ -10,7 +10,7 @@ use Rattle.book_design.specs.Faults.{IsFirst, IsUnknown}
 use Rattle.book_design.specs.declared.strips.Strip.{Strip as Kept}
 use Rattle.book_design.specs.declared.rows.RowShape.{RowShape}
 use Rattle.book_design.specs.declared.parts.Subrow.{Subrow}
-use Rattle.book_design.specs.Records.{Records, Strip, strip_of, row_at, strips}
+use Rattle.book_design.specs.Records.{Records, Strip, row_at, strips}
 use Rattle.book_design.specs.Joined.{joined_pin, weight_of}
 use Rattle.book_design.specs.Values.{NetValue}
 
