@@ -1,3 +1,5 @@
+//! The check of two vectors, over all points.
+
 ghost use Rattle.std.specs.Prelude.{◌<◌, ℕ, length, IfOk};
 ghost use Rattle.relax_system.specs.System.{IsValid};
 ghost use Rattle.relax_system.specs.Means.{InBoxes};

@@ -1,3 +1,5 @@
+//! What a certificate says.
+
 /// What a certificate says.
 #[derive(Clone, Copy, Debug, PartialEq, Eq)]
 pub enum Verdict {
@@ -10,7 +12,9 @@ pub enum Verdict {
     },
     /// An equation fails, the first one.
     Broken {
+        /// The point of the equation.
         point: u32,
+        /// The lower one where both of the point's equations fail.
         side: Side2,
     },
 }

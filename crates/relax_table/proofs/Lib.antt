@@ -1,6 +1,7 @@
 pub mod Numbers
 pub mod Distances
 pub mod Vectors
+pub mod Seen
 pub mod Sounds
 pub mod Moves
 pub mod Seated

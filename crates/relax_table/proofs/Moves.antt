@@ -1,5 +1,5 @@
 -- Each kind of step keeps the rule of a table, and leaves what it says.
-use Rattle.std.proofs.Common.{◌≡◌, ℕ, ◌<◌, ◌≤◌, max, min, List, [], ◌∷◌, ◌++◌, length, zero, suc, set, false, refl, sym, ap, ◌∙◌, subst, ⊎_elim, arith}
+use Rattle.std.proofs.Common.{◌≡◌, ℕ, ◌<◌, ◌≤◌, max, min, List, [], ◌∷◌, ◌++◌, length, zero, suc, set, false, refl, sym, ap, ◌∙◌, subst, ⊎_elim, inl, inr, arith}
 use Rattle.std.specs.List.{slice_index}
 use Rattle.std.proofs.lemmas.List.Sums.{sum_by-append}
 use Rattle.std.proofs.lemmas.Bool.{false≢true}
@@ -22,8 +22,9 @@ use Rattle.relax_table.specs.Step.{word_after}
 use Rattle.relax_table.specs.Step.Kind.{Load, Renew}
 use Rattle.relax_table.specs.Seats.{IsSound}
 use Rattle.relax_table.specs.Forms.Rule.{state_of, all_moves, IsInStep, Keeps, stepped_view, Stepped, Learned, sprout, joined, gone, opened}
-use Rattle.relax_table.proofs.Numbers.{further-first, further-within, further-low, further-high, counted_apart}
+use Rattle.relax_table.proofs.Numbers.{further-first, further-within, further-low, further-high, counted_apart, past-self, further-is_first, further-is_second}
 use Rattle.relax_table.proofs.Vectors.{AllBefore-refl, at_furthest, length-furthest}
+use Rattle.relax_table.proofs.Seen.{there_of, seen_at_snoc, seen_at_join, moved_words-self}
 use Rattle.relax_table.proofs.Sounds.{sound_of, IsMove, keeps_moved, moved_in_step, all_moves-set}
 
 -- the rule, as a fact about the state of a table
@@ -41,6 +42,8 @@ load_move side points start words views i v kept there = record {
   start = refl;
   seen = refl;
   moves = omega arith;
+  counts = omega (arith, past-self side (slice_index words i));
+  spent = refl;
 }
 
 renew_move : (side : Side) (points : List Point) (start words : List ℕ) (views : List View) (i : ℕ) (v : View) → Keeps side points start words views → IsInStep side points start words v → i < length points
@@ -64,18 +67,15 @@ renew_move side points start words views i v kept step there =
       start = refl;
       seen = refl;
       moves = omega (arith, counted_apart side w (further_of side w (mean_of side v.system i v.seen)));
+      counts = omega arith;
+      spent = refl;
     }
 
-there_of : (views : List View) (k : ℕ) (v : View) → get_elem? views k ≡ some v → k < length views
-there_of [] k v e = absurd (some-ne-none v (sym e))
-there_of (w ∷ views) zero v e = omega arith
-there_of (w ∷ views) (suc k) v e = let rest : k < length views = there_of views k v e in omega arith
-
 -- after a move the seat is sound
-sound_moved : (side : Side) (points : List Point) (start words : List ℕ) (views : List View) (id i x : ℕ) (v w : View) (name : TableId) → Keeps side points start words views → get_elem? views id ≡ some v → IsInStep side points start words v
+sound_moved : (side : Side) (points : List Point) (start words : List ℕ) (views : List View) (id i x : ℕ) (v w : View) (name : TableId) → Keeps side points start words views → get_elem? views id ≡ some v → v.spent ≡ false → IsInStep side points start words v
     → IsMove side points words i x v w → IsSound side (state_of name w)
-sound_moved side points start words views id i x v w name kept at step move =
-    sound_of side points start (set words i x) (set views id w) id w name (keeps_moved side points start words views id i x v w kept at step move)
+sound_moved side points start words views id i x v w name kept at free step move =
+    sound_of side points start (set words i x) (set views id w) id w name (keeps_moved side points start words views id i x v w kept at free step move)
     (set_here views id w (there_of views id v at)) (moved_in_step side points start words views i x v w kept step move)
 
 pub loads_allowed : (side : Side) (points : List Point) (start : List ℕ) (slots id i : ℕ) (me : Me ℕ View) → i < length points → me.0.spent ≡ false
@@ -87,8 +87,8 @@ loads_allowed side points start slots id i me there unspent s kept homes at fits
       stepped_view side Load i me.0 x,
       keeps,
       tt,
-      keeps_moved side points start s.words s.views id i x me.0 _ kept at step move,
-      (refl, record { view = refl; found = step.behind i; sound = λ name. sound_moved side points start s.words s.views id i x me.0 _ name kept at step move }),
+      keeps_moved side points start s.words s.views id i x me.0 _ kept at unspent step move,
+      (refl, record { view = refl; found = step.behind i; sound = λ name. sound_moved side points start s.words s.views id i x me.0 _ name kept at unspent step move }),
     )
 
 pub renews_allowed : (side : Side) (points : List Point) (start : List ℕ) (slots id i m : ℕ) (me : Me ℕ View) → i < length points → me.0.spent ≡ false → m ≡ mean_of side me.0.system i me.0.seen
@@ -100,8 +100,8 @@ renews_allowed side points start slots id i m me there unspent e s kept homes at
       stepped_view side Renew i me.0 x,
       keeps,
       tt,
-      rw e (keeps_moved side points start s.words s.views id i _ me.0 _ kept at step move),
-      (refl, record { view = refl; found = step.behind i; sound = λ name. sound_moved side points start s.words s.views id i _ me.0 _ name kept at step move }),
+      rw e (keeps_moved side points start s.words s.views id i _ me.0 _ kept at unspent step move),
+      (refl, record { view = refl; found = step.behind i; sound = λ name. sound_moved side points start s.words s.views id i _ me.0 _ name kept at unspent step move }),
     )
 
 -- a load that leaves the view as it is
@@ -135,6 +135,8 @@ splits_allowed side points start id v unspent s kept at =
           (λ same. subst (λ (y : View). IsInStep side points start s.words y) same
           (record { same_system = step.same_system; same_start = step.same_start; in_boxes = step.in_boxes; started = step.started; behind = step.behind }))
           (at_snoc s.views (sprout v) z k here);
+      seen = λ j inside. ⊎_elim (λ unmoved. inl unmoved) (λ some. inr (seen_at_snoc s.views (sprout v) j (slice_index s.words j) some)) (kept.seen j inside);
+      counted = omega (arith, kept.counted);
       paid = omega (arith, kept.paid);
     })
 
@@ -163,6 +165,8 @@ opening_keeps side points start valid boxes first =
       started = AllBefore-refl side start;
       first = first;
       each = λ k z here free. one_view side points start start (opened points start) step k z here;
+      seen = λ j inside. inl refl;
+      counted = omega (arith, moved_words-self side start);
       paid = omega arith;
     }
 
@@ -184,7 +188,10 @@ joined_in_step side points start words v w h k =
 pub joins_allowed : (side : Side) (points : List Point) (start : List ℕ) (id : ℕ) (v : View) (other : ℕ) (w : View) → v.spent ≡ false → w.spent ≡ false → Joins (Ruled side points start) id v other w (joined side v w) gone
 joins_allowed side points start id v other w free free' s kept at apart' at' =
     let at'' : get_elem? s.views other ≡ some w = sym (set_else s.views id other (joined side v w) apart') ∙ at' in
-    let both = joined_in_step side points start s.words v w (kept.each id v at free) (kept.each other w at'' free') in
+    let first = kept.each id v at free in
+    let second = kept.each other w at'' free' in
+    let both = joined_in_step side points start s.words v w first second in
+    let same : length v.seen ≡ length w.seen = omega (arith, first.in_boxes.all, second.in_boxes.all) in
     record {
       valid = kept.valid;
       start_boxes = kept.start_boxes;
@@ -198,5 +205,13 @@ joins_allowed side points start id v other w free free' s kept at apart' at' =
           (λ old. kept.each k z old.1 unspent)
           (at_set s.views id k (joined side v w) z rest.1))
           (at_set (set s.views id (joined side v w)) other k gone z here);
+      seen = λ j inside. ⊎_elim
+          (λ unmoved. inl unmoved)
+          (λ some. inr (seen_at_join s.views id other v w (joined side v w) gone j (slice_index s.words j) at at'' apart' free
+              (λ e. at_furthest side v.seen w.seen j same ∙ further-is_first side _ _ _ e (second.behind j))
+              (λ e. at_furthest side v.seen w.seen j same ∙ further-is_second side _ _ _ e (first.behind j))
+              some))
+          (kept.seen j inside);
+      counted = omega (arith, kept.counted, all_moves-set s.views id v (joined side v w) at, all_moves-set (set s.views id (joined side v w)) other w gone at');
       paid = omega (arith, kept.paid, all_moves-set s.views id v (joined side v w) at, all_moves-set (set s.views id (joined side v w)) other w gone at');
     }

@@ -62,7 +62,7 @@ impl<'a> SideTable<'a, Down> {
         requires { IsCeilStart system.now start.now }
         ensures table { IfOk result (λ t. (t.0.system ≡ system.now) × (t.0.start ≡ start.now)) }
         ensures own { IfOk result (λ t. IsSeatOf t.0 t.1) }
-        ensures seat { IfOk result (λ t. (t.1.seen ≡ start.now) × (t.1.loads ≡ 0) × (t.1.fetches ≡ 0) × (t.1.moves ≡ 0) × (t.1.parts ≡ 1)) }
+        ensures seat { IfOk result (λ t. (t.1.seen ≡ start.now) × (t.1.loads ≡ 0) × (t.1.fetches ≡ 0) × (t.1.moves ≡ 0) × (t.1.parts ≡ 1) × (t.1.looked ≡ []) × (t.1.renewed ≡ [])) }
         ensures above { IfOk result (λ t. IsAboveGreatest t.1) }
     {
         SideTable::over(alloc, system, start)
@@ -75,7 +75,7 @@ impl<'a> SideTable<'a, Down> {
         requires { IsSeatOf self.now seat.old }
         ensures same { seat.new ≡ seat.old }
         ensures own { IfOk result (IsSeatOf self.now) }
-        ensures seat { IfOk result (λ s. (s.seen ≡ seat.old.seen) × (s.loads ≡ 0) × (s.fetches ≡ 0) × (s.moves ≡ 0) × (s.parts ≡ 1)) }
+        ensures seat { IfOk result (λ s. (s.seen ≡ seat.old.seen) × (s.loads ≡ 0) × (s.fetches ≡ 0) × (s.moves ≡ 0) × (s.parts ≡ 1) × (s.looked ≡ []) × (s.renewed ≡ [])) }
         ensures above { IfOk result IsAboveGreatest }
     {
         self.split_side(seat)

@@ -1,6 +1,6 @@
 //! A table of one direction: how it is made, and how its seats are split and joined.
 
-ghost use Rattle.std.specs.Prelude.{◌≡◌, ◌+◌, ◌<◌, ◌≤◌, length, slice_index, IfOk, OnOk, OnErr};
+ghost use Rattle.std.specs.Prelude.{◌≡◌, [], ◌+◌, ◌<◌, ◌≤◌, length, slice_index, IfOk, OnOk, OnErr};
 ghost use Rattle.relax_system.specs.Sides.{AllBefore};
 ghost use Rattle.relax_system.specs.Means.{InBoxes};
 ghost use Rattle.relax_system.specs.System.{IsValid};
@@ -50,7 +50,7 @@ impl<'a, D: Direction> SideTable<'a, D> {
         requires first { (u : List ℕ) → IsQuietVector D.side system.now u → AllBefore D.side start.now u }
         ensures table { IfOk result (λ t. (t.0.system ≡ system.now) × (t.0.start ≡ start.now)) }
         ensures own { IfOk result (λ t. IsSeatOf t.0 t.1) }
-        ensures seat { IfOk result (λ t. (t.1.seen ≡ start.now) × (t.1.loads ≡ 0) × (t.1.fetches ≡ 0) × (t.1.moves ≡ 0) × (t.1.parts ≡ 1)) }
+        ensures seat { IfOk result (λ t. (t.1.seen ≡ start.now) × (t.1.loads ≡ 0) × (t.1.fetches ≡ 0) × (t.1.moves ≡ 0) × (t.1.parts ≡ 1) × (t.1.looked ≡ []) × (t.1.renewed ≡ [])) }
         ensures sound { IfOk result (λ t. IsSound D.side t.1) }
     {
         let _ = system.points();
@@ -75,7 +75,7 @@ impl<'a, D: Direction> SideTable<'a, D> {
         requires { IsSeatOf self.now seat.old }
         ensures same { seat.new ≡ seat.old }
         ensures own { IfOk result (IsSeatOf self.now) }
-        ensures seat { IfOk result (λ s. (s.seen ≡ seat.old.seen) × (s.loads ≡ 0) × (s.fetches ≡ 0) × (s.moves ≡ 0) × (s.parts ≡ 1)) }
+        ensures seat { IfOk result (λ s. (s.seen ≡ seat.old.seen) × (s.loads ≡ 0) × (s.fetches ≡ 0) × (s.moves ≡ 0) × (s.parts ≡ 1) × (s.looked ≡ []) × (s.renewed ≡ [])) }
         ensures sound { IfOk result (IsSound D.side) }
     {
         let seen = seat.seen.clone()?;

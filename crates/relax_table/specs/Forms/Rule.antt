@@ -1,5 +1,5 @@
 -- The rule of a table over its words, its start and the views of all seats, and what each step leaves.
-use Rattle.std.specs.Prelude.{◌≡◌, ℕ, ◌+◌, ◌≤◌, List, [], ◌∷◌, ◌++◌, map, sum_by, true, false}
+use Rattle.std.specs.Prelude.{◌≡◌, ◌⊎◌, ℕ, ◌+◌, ◌<◌, ◌≤◌, List, [], ◌∷◌, ◌++◌, length, map, sum_by, true, false}
 use Rattle.std.specs.List.{slice_index, zip}
 use mathlib.Core.Option.{some}
 use lib.ListN.{get_elem?}
@@ -31,7 +31,20 @@ pub record IsInStep (side : Side) (points : List Point) (start words : List ℕ)
   pub started : AllBefore side start v.seen
   pub behind : AllBefore side v.seen words
 
--- The words stand from the start on, and before each bound. All moves together are at most what the words went from the start.
+-- a seat that isn't spent has seen x as the word of the point i
+pub record IsSeenBySome (views : List View) (i x : ℕ) : Type 0 where
+  pub seat : ℕ
+  pub view : View
+  pub there : get_elem? views seat ≡ some view
+  pub unspent : view.spent ≡ false
+  pub seen : slice_index view.seen i ≡ x
+
+-- how many words stand past their entries of the start
+abbrev pub moved_words : Side → List ℕ → List ℕ → ℕ
+moved_words side start words = sum_by (λ e. one_if (is_past side e.0 e.1)) (zip start words)
+
+-- The words stand from the start on, and before each quiet vector. Each word is its entry of the start or one that a seat has
+-- seen. All moves together are at least the words that differ from the start, and at most what the words went from it.
 pub record Keeps (side : Side) (points : List Point) (start words : List ℕ) (views : List View) : Type 0 where
   pub valid : IsValid points
   pub start_boxes : InBoxes points start
@@ -39,6 +52,8 @@ pub record Keeps (side : Side) (points : List Point) (start words : List ℕ) (v
   pub started : AllBefore side start words
   pub first : (u : List ℕ) → IsQuietVector side points u → AllBefore side words u
   pub each : (k : ℕ) (v : View) → get_elem? views k ≡ some v → v.spent ≡ false → IsInStep side points start words v
+  pub seen : (i : ℕ) → i < length points → (slice_index words i ≡ slice_index start i) ⊎ IsSeenBySome views i (slice_index words i)
+  pub counted : moved_words side start words ≤ all_moves views
   pub paid : all_moves views ≤ distance side start words
 
 -- the first view
