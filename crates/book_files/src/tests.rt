@@ -399,3 +399,17 @@ fn aux_files_have_first_faults(rt: HostRuntime) {
         assert_eq!(rt; fault, Some(TextFault { line, kind }), "of {text:?}");
     }
 }
+
+#[test]
+fn a_line_may_have_many_words(rt: HostRuntime) {
+    let mut text = b"UCLA wts 1.0".to_vec(rt.alloc()).expect(&rt, "a text");
+    for _ in 0..97 {
+        text.extend_from_slice(b" word").expect(&rt, "a text");
+    }
+    text.extend_from_slice(b"\nn 2").expect(&rt, "a text");
+    for _ in 0..97 {
+        text.extend_from_slice(b" 1").expect(&rt, "a text");
+    }
+    let file = read_wts(rt.alloc(), &text).expect(&rt, "a weights file");
+    assert_eq!(rt; file.as_slice().len(), 1);
+}

@@ -1,12 +1,13 @@
 //! The outside of the placer: a folder of files, a sink for the report, and a gate that watches the crew.
 //!
 //! Everything above is written over the traits `Folder`, `Sink` and `Gate`, so that its contracts can say what is read and
-//! written. The meanings of a folder are the files that it tells, the file being read and the one being written, and four
-//! counts that never fall. `MemFolder` and `MemSink` hold their bytes, and fail at the calls that they are told. `CalmFolder`
+//! written. The state of a folder is its files, where they are known, the file being read and the one being written, and five
+//! counts that never fall. `MemFolder` and `MemSink` hold their bytes, and fail at the calls of given numbers. `CalmFolder`
 //! and `CalmSink` hold theirs too, and fail only at an absent name. `HostFolder` and `StdSink` are the trusted edge over the
-//! real folder and standard output, and tell nothing of content.
+//! real folder and standard output, and nothing of their content is known.
 //!
-//! The contract: an answer Failed comes only where a count of faults rose in that call.
+//! It stands above the words and numbers of texts, and below the readers of files. The contract: an answer Failed raises a count
+//! of faults by exactly one, and no other answer changes it.
 #![tactic(auto)]
 
 mod calm;
