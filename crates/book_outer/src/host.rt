@@ -101,26 +101,26 @@ impl<R: Files + Drop> Folder for HostFolder<R> {
 }
 
 // Reads on in the open file, which is closed at an error.
-fn read_open<F: Read + Drop>(open: &mut Option<F>, buf: &mut [u8]) -> Result<usize, Trouble>
-    requires { IsSome (some_reading open.old) }
-    ensures reads { Reads None (some_reading open.old) buf.old buf.new result (some_reading open.new) }
-    ensures bytes { ReadsFile F.remaining open.old open.new buf.new result }
+fn read_open<F: Read + Drop>(held: &mut Option<F>, buf: &mut [u8]) -> Result<usize, Trouble>
+    requires { IsSome (some_reading held.old) }
+    ensures reads { Reads None (some_reading held.old) buf.old buf.new result (some_reading held.new) }
+    ensures bytes { ReadsFile F.remaining held.old held.new buf.new result }
 {
-    let mut file = open.take().unwrap();
+    let mut file = held.take().unwrap();
     let n = read_some(&mut file, buf)?;
-    *open = Some(file);
+    *held = Some(file);
     Ok(n)
 }
 
 // Writes on in the open file, which is closed at an error.
-fn put_open<F: Write + Drop>(open: &mut Option<F>, bytes: &[u8]) -> Result<(), Trouble>
-    requires { IsSome (some_writing open.old) }
-    ensures puts { Puts None (some_writing open.old) bytes.now result None (some_writing open.new) }
-    ensures bytes { PutsFile F.contents open.old open.new bytes.now result }
+fn put_open<F: Write + Drop>(held: &mut Option<F>, bytes: &[u8]) -> Result<(), Trouble>
+    requires { IsSome (some_writing held.old) }
+    ensures puts { Puts None (some_writing held.old) bytes.now result None (some_writing held.new) }
+    ensures bytes { PutsFile F.contents held.old held.new bytes.now result }
 {
-    let mut file = open.take().unwrap();
+    let mut file = held.take().unwrap();
     write_whole(&mut file, bytes)?;
-    *open = Some(file);
+    *held = Some(file);
     Ok(())
 }
 

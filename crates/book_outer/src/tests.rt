@@ -171,18 +171,9 @@ fn a_long_put_writes_all_bytes(rt: HostRuntime) -> Result<(), Fail> {
     let mut folder = HostFolder::new(rt);
     folder.create(name)?;
     folder.put(&long)?;
-    let mut piece = vec![in rt.alloc(); 0; 65_536]?;
-    let mut bytes = 0;
-    folder.begin(name)?;
-    for _ in 0..100_000 {
-        let n = folder.read(&mut piece)?;
-        if n == 0 {
-            break;
-        }
-        bytes = n.saturating_add(bytes);
-    }
+    let bytes = whole(rt.alloc(), &mut folder, name, &mut [0; 4_096])?;
     fs::remove_file(&rt, name)?;
-    assert_eq!(rt; bytes, 100_000);
+    assert_eq!(rt; bytes.len(), 100_000);
     Ok(())
 }
 

@@ -44,7 +44,7 @@ fn run(rt: &HostRuntime) -> io::Result<()> {
 fn measure_nodes(rt: &HostRuntime, text: &[u8]) -> io::Result<()> {
     let start = Instant::now(rt)?;
     let read = read_nodes(rt.alloc(), text);
-    tell(
+    print_time(
         rt,
         "nodes",
         read.map_or(0, |file| file.as_slice().len()),
@@ -55,7 +55,7 @@ fn measure_nodes(rt: &HostRuntime, text: &[u8]) -> io::Result<()> {
 fn measure_nets(rt: &HostRuntime, text: &[u8]) -> io::Result<()> {
     let start = Instant::now(rt)?;
     let read = read_nets(rt.alloc(), text);
-    tell(
+    print_time(
         rt,
         "nets",
         read.map_or(0, |file| file.as_slice().len()),
@@ -66,7 +66,7 @@ fn measure_nets(rt: &HostRuntime, text: &[u8]) -> io::Result<()> {
 fn measure_places(rt: &HostRuntime, what: &str, text: &[u8]) -> io::Result<()> {
     let start = Instant::now(rt)?;
     let read = read_pl(rt.alloc(), text);
-    tell(
+    print_time(
         rt,
         what,
         read.map_or(0, |file| file.as_slice().len()),
@@ -75,7 +75,7 @@ fn measure_places(rt: &HostRuntime, what: &str, text: &[u8]) -> io::Result<()> {
 }
 
 /// Prints how many records there were, and how long the reading took.
-fn tell(rt: &HostRuntime, what: &str, count: usize, start: Instant) -> io::Result<()> {
+fn print_time(rt: &HostRuntime, what: &str, count: usize, start: Instant) -> io::Result<()> {
     let time = start.elapsed(rt)?;
     println!(rt; "{what}: {count}")?;
     let microseconds = time.as_micros();
