@@ -7,8 +7,8 @@ ghost use Rattle.relax_table.specs.Seats.{IsSeatOf};
 ghost use Rattle.relax_crew.specs.Crew.{IsCrewSize};
 ghost use Rattle.relax_crew.specs.Forms.Turns.{AllSeated, AllSingle, AllExtremal, SweepsOnce, BeginsWithSweep, IsTurn};
 
-use crate::spaced::Spaced;
 use crate::range::{MOST_SEATS, range_of};
+use crate::spaced::Spaced;
 use book_outer::Gate;
 use book_text::Memory;
 use relax_system::{MOST_POINTS, Side, System};

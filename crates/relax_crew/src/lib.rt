@@ -8,11 +8,11 @@
 //! its threads.
 #![tactic(auto)]
 
-mod spaced;
 mod ceil;
 mod crew;
 mod floor;
 mod range;
+mod spaced;
 
 pub use ceil::{CeilAnswer, greatest};
 pub use floor::{FloorAnswer, least};

@@ -1,6 +1,7 @@
 //! Small systems, worked by hand, by one seat and by many, and gates that watch the seats.
 
 ghost use Rattle.std.specs.Prelude.{◌<◌, ◌≤◌, length};
+ghost use Rattle.relax_crew.specs.Crew.{IsCrewSize};
 
 use crate::{greatest, least};
 use book_outer::{Gate, OpenGate};
@@ -58,7 +59,7 @@ fn solves<R: Threads + Abort + Sync>(
     seats: usize,
 ) -> Result<(), Memory>
     requires some { 0 < length system.now }
-    requires seats { (1 ≤ seats) × (seats ≤ 64) }
+    requires seats { IsCrewSize seats }
 {
     let low = least(rt, alloc, system, seats, &OpenGate)?;
     assert_eq!(rt; low.seat.seen(), [0, 1].as_slice());
@@ -121,7 +122,7 @@ fn deals<R: Threads + Abort + Sync>(
     seats: usize,
 ) -> Result<(), Memory>
     requires few { length owners.now ≤ 64 }
-    requires seats { (1 ≤ seats) × (seats ≤ 64) }
+    requires seats { IsCrewSize seats }
 {
     let system = chain_of(rt, alloc, owners.len() as u32, 9)?;
     assert!(rt; 0 < system.points());
@@ -141,6 +142,7 @@ fn each_point_is_passed_once_by_its_seat(rt: HostRuntime) -> Result<(), Fail> {
     deals(&rt, rt.alloc(), &[0, 1, 2, 2], 3)?;
     deals(&rt, rt.alloc(), &[0, 0, 1, 1, 2, 2, 2], 3)?;
     deals(&rt, rt.alloc(), &[2, 4], 5)?;
+    deals(&rt, rt.alloc(), &[15, 31, 47, 63], 64)?;
     Ok(())
 }
 
@@ -254,5 +256,79 @@ fn the_lowers_of_both_seats_are_counted(rt: HostRuntime) -> Result<(), Fail> {
     assert!(rt; gate.took_place());
     assert_eq!(rt; high.seat.seen(), [0, 0, 0, 0].as_slice());
     assert_eq!(rt; high.lowers, 4);
+    Ok(())
+}
+
+/// Lets the second of two seats fetch its first point before the first one fetches its second.
+#[derive(Drop)]
+struct Turns {
+    second_came: AtomicBool,
+    first_came: AtomicBool,
+}
+
+impl Turns {
+    /// Looks for the flag, for so many turns at most.
+    fn waits(flag: &AtomicBool) {
+        let _came = (0..TURNS).any(|_| flag.load(Ordering::SeqCst));
+    }
+}
+
+impl Gate for Turns {
+    fn pass(&self, _seat: usize, point: usize) {
+        match point {
+            0 => Turns::waits(&self.second_came),
+            1 => self.first_came.store(true, Ordering::SeqCst),
+            2 => {
+                self.second_came.store(true, Ordering::SeqCst);
+                Turns::waits(&self.first_came);
+                // time for a fetch that would still be under way
+                let never = AtomicBool::new(false);
+                let _ = (0..TURNS / 50).any(|_| never.load(Ordering::SeqCst));
+            }
+            _ => {}
+        }
+    }
+}
+
+/// Four points in the box from 0 to 9. The two in the middle are joined; the second of them has nearly the weight of its
+/// constant 9 alone, and the others have no pull.
+fn pulled_pair(rt: &impl Abort, alloc: Global) -> Result<System, Memory> {
+    let rows: [(Option<u32>, u64, u128); 4] = [
+        (None, 1, 0),
+        (Some(2), 1, 4),
+        (Some(1), 100, 900),
+        (None, 1, 0),
+    ];
+    let mut points = Points::new(alloc);
+    for (other, anchor, anchored) in rows {
+        let mut near = NearList::new(alloc);
+        if let Some(point) = other {
+            near.push(Near { point, weight: 1 })?;
+        }
+        points.push(Point {
+            lo: 0,
+            hi: 9,
+            near,
+            anchor,
+            anchored,
+        })?;
+    }
+    assert!(rt; is_valid(points.as_slice()));
+    Ok(System::new(points))
+}
+
+/// The third point is raised to 8 before the second one is relaxed, which then rises to 6 at once. Where the gate is called
+/// before a relaxation, the second point rises to 2 first, and there are three raises.
+#[test]
+fn the_gate_is_called_after_the_relaxation(rt: HostRuntime) -> Result<(), Fail> {
+    let system = pulled_pair(&rt, rt.alloc())?;
+    assert!(rt; system.points() == 4);
+    let gate = Turns {
+        second_came: AtomicBool::new(false),
+        first_came: AtomicBool::new(false),
+    };
+    let low = least(&rt, rt.alloc(), &system, 2, &gate)?;
+    assert_eq!(rt; low.seat.seen(), [0, 6, 8, 0].as_slice());
+    assert_eq!(rt; low.raises, 2);
     Ok(())
 }

@@ -208,9 +208,9 @@ joins_allowed side points start id v other w free free' s kept at apart' at' =
       seen = λ j inside. ⊎_elim
           (λ unmoved. inl unmoved)
           (λ some. inr (seen_at_join s.views id other v w (joined side v w) gone j (slice_index s.words j) at at'' apart' free
-              (λ e. at_furthest side v.seen w.seen j same ∙ further-is_first side _ _ _ e (second.behind j))
-              (λ e. at_furthest side v.seen w.seen j same ∙ further-is_second side _ _ _ e (first.behind j))
-              some))
+          (λ e. at_furthest side v.seen w.seen j same ∙ further-is_first side _ _ _ e (second.behind j))
+          (λ e. at_furthest side v.seen w.seen j same ∙ further-is_second side _ _ _ e (first.behind j))
+          some))
           (kept.seen j inside);
       counted = omega (arith, kept.counted, all_moves-set s.views id v (joined side v w) at, all_moves-set (set s.views id (joined side v w)) other w gone at');
       paid = omega (arith, kept.paid, all_moves-set s.views id v (joined side v w) at, all_moves-set (set s.views id (joined side v w)) other w gone at');

@@ -161,12 +161,13 @@ fn looks_around_on_the_way_up<L: Ledger>(
     let mut other = table.split(&mut seat)?;
     assert_eq!(rt; table.relax(&mut seat, 2, steps), Raised { old: 0, new: 4 });
     assert_eq!(rt; table.relax(&mut seat, 1, steps), Raised { old: 0, new: 2 });
+    assert_eq!(rt; table.relax(&mut seat, 2, steps), Raised { old: 4, new: 5 });
     assert_eq!(rt; table.relax(&mut seat, 0, steps), Raised { old: 0, new: 1 });
     assert_eq!(rt;
         table.relax(&mut other, 1, steps),
-        Raised { old: 2, new: 2 }
+        Raised { old: 2, new: 3 }
     );
-    assert_eq!(rt; other.seen(), [1, 2, 4].as_slice());
+    assert_eq!(rt; other.seen(), [1, 3, 5].as_slice());
     Ok(())
 }
 
@@ -193,10 +194,41 @@ fn looks_around_on_the_way_down<L: Ledger>(
         Lowered { old: 9, new: 8 }
     );
     assert_eq!(rt;
-        table.relax(&mut other, 1, steps),
-        Lowered { old: 7, new: 7 }
+        table.relax(&mut seat, 0, steps),
+        Lowered { old: 5, new: 4 }
     );
-    assert_eq!(rt; other.seen(), [5, 7, 8].as_slice());
+    assert_eq!(rt;
+        table.relax(&mut other, 1, steps),
+        Lowered { old: 7, new: 6 }
+    );
+    assert_eq!(rt; other.seen(), [4, 6, 8].as_slice());
+    Ok(())
+}
+
+/// A second seat at a ceil table looks at a word that the first one lowered, lowers a word itself, and settles a range.
+fn looks_from_above<L: Ledger>(
+    rt: &impl Abort,
+    alloc: Global,
+    system: &System,
+    steps: &mut Steps<L>,
+) -> Result<(), Memory>
+    requires { length system.now ≡ 2 }
+{
+    let (table, mut seat) = from_tops(alloc, system)?;
+    let mut other = table.split(&mut seat)?;
+    assert_eq!(rt;
+        table.relax(&mut seat, 0, steps),
+        Lowered { old: 3, new: 2 }
+    );
+    assert_eq!(rt; table.look(&mut other, 0, steps), 2);
+    assert_eq!(rt; other.seen(), [2, 3].as_slice());
+    assert_eq!(rt;
+        table.lower(&mut other, 1, steps),
+        Lowered { old: 3, new: 3 }
+    );
+    table.settle_range(&mut other, 0, 1, steps);
+    assert_eq!(rt; other.seen(), [2, 3].as_slice());
+    assert_eq!(rt; other.lowers(), 0);
     Ok(())
 }
 
@@ -240,6 +272,12 @@ fn looks_at_another<L: Ledger>(
         table.relax(&mut seat, 1, &mut steps),
         Raised { old: 0, new: 1 }
     );
+    let mut third = table.split(&mut other)?;
+    assert_eq!(rt;
+        table.relax(&mut third, 0, &mut steps),
+        Raised { old: 0, new: 0 }
+    );
+    assert_eq!(rt; third.seen(), [0, 1].as_slice());
     assert_eq!(rt; table.look(&mut other, 1, &mut steps), 1);
     assert_eq!(rt; other.seen(), [0, 1].as_slice());
     assert_eq!(rt;
@@ -250,6 +288,7 @@ fn looks_at_another<L: Ledger>(
     assert_eq!(rt; other.raises(), 0);
     looks_around_on_the_way_up(rt, alloc, &mut steps)?;
     looks_around_on_the_way_down(rt, alloc, &mut steps)?;
+    looks_from_above(rt, alloc, system, &mut steps)?;
     counts_the_moves(rt, alloc, system, &mut steps)
 }
 
