@@ -1,13 +1,13 @@
 -- The first part of a region is a front of its points in order.
-use Rattle.std.proofs.Common.{◌≡◌, ◌⊎◌, ℕ, ◌+◌, ◌-◌, ◌*◌, ◌<◌, ◌≤◌, Bool, true, false, not, ◌&&◌, ◌||◌, cond, ltb, eqb, min, List, length, get_or, take, sym, ◌∙◌, ap, refl, inl, inr, arith}
-use Rattle.std.specs.Prelude.{sum_by, slice_index, filter, Contains}
+use Rattle.std.proofs.Common.{◌≡◌, ℕ, ◌+◌, ◌-◌, ◌*◌, ◌<◌, ◌≤◌, Bool, true, false, not, ◌&&◌, ◌||◌, cond, ltb, eqb, List, length, get_or, take, sym, ◌∙◌, ap, refl, arith}
+use Rattle.std.specs.Prelude.{slice_index, filter, Contains}
 use Rattle.std.proofs.lemmas.Bool.{lt-ltb, le-ltb}
 use Rattle.std.proofs.lemmas.Bool.Decides.{nat_tests}
 use Rattle.std.proofs.lemmas.List.{get_or_default, take-take}
 use Rattle.std.proofs.lemmas.List.Elements.{recursion_from_All, All-weaker, All-contains_itself}
 use Rattle.std.proofs.lemmas.List.Sums.{sum_by-take-le}
 use Rattle.std.proofs.lemmas.List.Sorted.{Contains-permutation, length_permutation, sum_by-IsPermutation}
-use Rattle.area_cut.specs.Cut.{area_of, precedes, place_of, area_before, in_first, first_points, second_points}
+use Rattle.area_cut.specs.Cut.{area_of, precedes, area_before, in_first, first_points, second_points}
 use Rattle.area_cut.specs.Order.{IsInOrder}
 use Rattle.area_cut.specs.Forms.Placed.{IsFirstCount}
 use Rattle.area_cut.proofs.Fronts.{front_passes, sum_by-filter, filter_same}
@@ -32,8 +32,8 @@ at_place areas mids points order n k ordered count inside =
     ∙ ap (λ (m : ℕ). test k m (area_before areas mids points p)) (sym long)
     ∙ ap (λ (m : ℕ). test k (length order) m) part
     ∙ numbers_test k (length order) n (area_of areas (take k order)) (area_of areas points) count.some count.short inside
-        (λ some less. count.fewer k some less)
-        (λ more room. let enough = count.enough (omega arith) in let grown = fronts_grow areas order n k more in omega arith)
+    (λ some less. count.fewer k some less)
+    (λ more room. let enough = count.enough (omega arith) in let grown = fronts_grow areas order n k more in omega arith)
 
 not_past : (n k : ℕ) → 1 ≤ n → ltb k n ≡ not (ltb (n - 1) k)
 not_past n k some = grind (arith, nat_tests)
@@ -55,7 +55,7 @@ pub first_are : (areas mids points order : List ℕ) (n : ℕ) → IsInOrder mid
 first_are areas mids points order n ordered count =
     let t = get_or order (n - 1) 0 in
     filter_same (in_first areas mids points) (λ (p : ℕ). not (precedes mids t p)) points
-        (recursion_from_All (λ (p : ℕ). in_first areas mids points p ≡ not (precedes mids t p)) points (All-weaker (Contains points) (λ (p : ℕ). in_first areas mids points p ≡ not (precedes mids t p)) (agrees areas mids points order n ordered count) points (All-contains_itself points)))
+    (recursion_from_All (λ (p : ℕ). in_first areas mids points p ≡ not (precedes mids t p)) points (All-weaker (Contains points) (λ (p : ℕ). in_first areas mids points p ≡ not (precedes mids t p)) (agrees areas mids points order n ordered count) points (All-contains_itself points)))
 
 not_twice : (b : Bool) → not (not b) ≡ b
 not_twice true = refl
@@ -67,7 +67,7 @@ second_are areas mids points order n ordered count =
     let t = get_or order (n - 1) 0 in
     let test = λ (p : ℕ). not (in_first areas mids points p) in
     filter_same test (precedes mids t) points
-        (recursion_from_All (λ (p : ℕ). test p ≡ precedes mids t p) points (All-weaker (Contains points) (λ (p : ℕ). test p ≡ precedes mids t p) (λ p c. ap not (agrees areas mids points order n ordered count p c) ∙ not_twice (precedes mids t p)) points (All-contains_itself points)))
+    (recursion_from_All (λ (p : ℕ). test p ≡ precedes mids t p) points (All-weaker (Contains points) (λ (p : ℕ). test p ≡ precedes mids t p) (λ p c. ap not (agrees areas mids points order n ordered count p c) ∙ not_twice (precedes mids t p)) points (All-contains_itself points)))
 
 -- the area of the first part
 pub first_area : (areas mids points order : List ℕ) (n : ℕ) → IsInOrder mids points order → IsFirstCount areas order (area_of areas points) n → area_of areas (first_points areas mids points) ≡ area_of areas (take n order)

@@ -1,10 +1,8 @@
 -- The parts of a good region are good, and lie within it.
-use Rattle.std.proofs.Common.{◌≡◌, ◌⊎◌, ℕ, zero, suc, ◌+◌, ◌-◌, ◌*◌, ◌/◌, ◌<◌, ◌≤◌, Bool, true, false, not, cond, eqb, List, [], ◌∷◌, ◌++◌, length, Option, Some, None, refl, sym, ap, ◌∙◌, inl, inr, arith}
-use Rattle.std.specs.Prelude.{sum_by, slice_index, filter, All}
-use Rattle.std.specs.List.{flat_map}
+use Rattle.std.proofs.Common.{◌≡◌, ℕ, ◌+◌, ◌*◌, ◌/◌, ◌≤◌, Bool, true, false, not, cond, eqb, List, [], ◌∷◌, Option, Some, None, refl, ap, arith}
+use Rattle.std.specs.Prelude.{slice_index}
 use Rattle.std.specs.List.Sorted.{IsStrictlyIncreasing}
 use Rattle.std.proofs.Math.Nat.{mul-le-mul_left, div-le_of_le-mul, div-le_self, mul_comm}
-use Rattle.std.proofs.lemmas.Bool.{eqb-true, eqb-false}
 use Rattle.std.proofs.lemmas.List.Kept.{IsStrictlyIncreasing-filter}
 use Rattle.std.proofs.lemmas.List.Elements.{All-append, All-cons, All-nil, All-head, All-tail}
 use Rattle.std.proofs.lemmas.List.Filters.{sum_by-filter_both}
@@ -86,7 +84,7 @@ halves_within areas mids axis region limit good within =
     let first = first_points areas mids region.points in
     let second = second_points areas mids region.points in
     All-cons (IsWithin limit) (below axis region line first) (above axis region line second ∷ []) (below_within axis region line limit first within at)
-        (All-cons (IsWithin limit) (above axis region line second) [] (above_within axis region line limit second within) (All-nil (IsWithin limit)))
+    (All-cons (IsWithin limit) (above axis region line second) [] (above_within axis region line limit second within) (All-nil (IsWithin limit)))
 
 parts_good : (areas xs ys : List ℕ) (region : Region) (axis : Option Axis) → IsGood region → AreGood (parts_on areas xs ys region axis)
 parts_good areas xs ys region None good = All-cons IsGood region [] good (All-nil IsGood)
@@ -105,5 +103,5 @@ pub cut_within : (limit : ℕ) (areas xs ys : List ℕ) (regions : List Region) 
 cut_within limit areas xs ys [] good within = All-nil (IsWithin limit)
 cut_within limit areas xs ys (region ∷ regions) good within =
     All-append (IsWithin limit) (parts_of areas xs ys region) (cut_of areas xs ys regions)
-        (parts_within areas xs ys region (axis_to_cut region) limit (All-head IsGood region regions good) (All-head (IsWithin limit) region regions within))
-        (cut_within limit areas xs ys regions (All-tail IsGood region regions good) (All-tail (IsWithin limit) region regions within))
+    (parts_within areas xs ys region (axis_to_cut region) limit (All-head IsGood region regions good) (All-head (IsWithin limit) region regions within))
+    (cut_within limit areas xs ys regions (All-tail IsGood region regions good) (All-tail (IsWithin limit) region regions within))

@@ -1,8 +1,8 @@
 -- What the walk over the points in order finds, and what the two parts of a region are by it.
 use Rattle.std.proofs.Common.{◌≡◌, ◌⊎◌, ℕ, ◌+◌, ◌-◌, ◌*◌, ◌<◌, ◌≤◌, Bool, true, false, not, cond, ltb, eqb, refl, List, length, get_or, take, Option, Some, None, sym, ◌∙◌, ap, subst, inl, inr, arith}
-use Rattle.std.specs.Prelude.{map, All, sum_by, slice_index, filter, nat_le}
-use Rattle.std.specs.List.Sorted.{IsPermutation, IsStrictlyIncreasing}
-use Rattle.std.proofs.lemmas.Bool.{cases_lt, ltb-true, ltb-false}
+use Rattle.std.specs.Prelude.{All, slice_index, filter, nat_le}
+use Rattle.std.specs.List.Sorted.{IsPermutation}
+use Rattle.std.proofs.lemmas.Bool.{cases_lt, ltb-false}
 use Rattle.std.proofs.lemmas.List.{length-map, get_or-map}
 use Rattle.std.proofs.lemmas.List.Sums.{sum_by_more, sum_by_more_le, sum_by-take-le}
 use Rattle.std.proofs.lemmas.List.Sorted.{All-permutation, sum_by-IsPermutation, length_permutation}
@@ -10,8 +10,8 @@ use Rattle.area_cut.specs.declared.axis.Axis.{Axis}
 use Rattle.area_cut.specs.declared.axis.Axis.TheVariants.{X, Y}
 use Rattle.area_cut.specs.declared.region.Region.{Region}
 use Rattle.area_cut.specs.declared.order.Placed.{Placed}
-use Rattle.area_cut.specs.Regions.{IsGood, low_end, high_end, side_of, axis_to_cut}
-use Rattle.area_cut.specs.Cut.{area_of, precedes, in_first, first_points, second_points, line_at, line_of}
+use Rattle.area_cut.specs.Regions.{low_end, high_end, side_of, axis_to_cut}
+use Rattle.area_cut.specs.Cut.{area_of, precedes, first_points, second_points, line_at, line_of}
 use Rattle.area_cut.specs.Order.{IsInOrder}
 use Rattle.area_cut.specs.Forms.Placed.{IsFirstCount, numbers_of}
 use Rattle.area_cut.proofs.Counts.{first_are, second_are, first_area}
@@ -101,9 +101,9 @@ halved areas mids axis region slice order walked last count part total low high 
     let by_order = subst (λ (ps : List Placed). IsFirstCount areas (numbers_of ps) total count) walked_is counted in
     let short = by_order.short in
     are_halves areas mids axis region order count part total line last.point first second by_region by_order
-        (total_is ∙ ap (area_of areas) slice_is)
-        (part_is ∙ ap (λ (ps : List Placed). area_of areas (take count (numbers_of ps))) walked_is)
-        (last_number order (count - 1) last (omega (arith, many_numbers order)) last_is)
-        (first_is ∙ ap (filter (λ p. not (precedes mids last.point p))) slice_is)
-        (second_is ∙ ap (filter (precedes mids last.point)) slice_is)
-        (line_is ∙ ap (λ (n : ℕ). line_at n (high - n) part total) low_is ∙ ap (λ (n : ℕ). line_at (low_end axis region) (n - low_end axis region) part total) high_is)
+    (total_is ∙ ap (area_of areas) slice_is)
+    (part_is ∙ ap (λ (ps : List Placed). area_of areas (take count (numbers_of ps))) walked_is)
+    (last_number order (count - 1) last (omega (arith, many_numbers order)) last_is)
+    (first_is ∙ ap (filter (λ p. not (precedes mids last.point p))) slice_is)
+    (second_is ∙ ap (filter (precedes mids last.point)) slice_is)
+    (line_is ∙ ap (λ (n : ℕ). line_at n (high - n) part total) low_is ∙ ap (λ (n : ℕ). line_at (low_end axis region) (n - low_end axis region) part total) high_is)

@@ -1,12 +1,12 @@
 -- The parts of a region lie in it.
-use Rattle.std.proofs.Common.{◌≡◌, ℕ, ◌≤◌, not, List, [], ◌∷◌, Option, Some, None, arith}
-use Rattle.std.specs.Prelude.{All, Contains, filter}
+use Rattle.std.proofs.Common.{ℕ, ◌≤◌, not, List, [], ◌∷◌, Option, Some, None, arith}
+use Rattle.std.specs.Prelude.{All, Contains}
 use Rattle.std.proofs.lemmas.List.Elements.{All-cons, All-nil, All-filter, All-contains_itself}
 use Rattle.area_cut.specs.declared.axis.Axis.{Axis}
 use Rattle.area_cut.specs.declared.axis.Axis.TheVariants.{X, Y}
 use Rattle.area_cut.specs.declared.region.Region.{Region}
 use Rattle.area_cut.specs.Regions.{IsGood, IsInside, axis_to_cut}
-use Rattle.area_cut.specs.Cut.{in_first, first_points, second_points, line_of, below, above, halves, mids_on, parts_on, parts_of}
+use Rattle.area_cut.specs.Cut.{in_first, first_points, second_points, line_of, below, above, mids_on, parts_on, parts_of}
 use Rattle.area_cut.proofs.Goods.{IsLine, is_line}
 
 same_ends : (n : ℕ) → n ≤ n
@@ -31,8 +31,8 @@ on_inside areas xs ys region (Some axis) good =
     let second = second_points areas mids region.points in
     let among = All-contains_itself region.points in
     All-cons (IsInside region) (below axis region line first) (above axis region line second ∷ [])
-        (below_inside axis region line first at (All-filter (in_first areas mids region.points) (Contains region.points) region.points among))
-        (All-cons (IsInside region) (above axis region line second) [] (above_inside axis region line second at (All-filter (λ p. not (in_first areas mids region.points p)) (Contains region.points) region.points among)) (All-nil (IsInside region)))
+    (below_inside axis region line first at (All-filter (in_first areas mids region.points) (Contains region.points) region.points among))
+    (All-cons (IsInside region) (above axis region line second) [] (above_inside axis region line second at (All-filter (λ p. not (in_first areas mids region.points p)) (Contains region.points) region.points among)) (All-nil (IsInside region)))
 
 pub parts_inside : (areas xs ys : List ℕ) (region : Region) → IsGood region → All (IsInside region) (parts_of areas xs ys region)
 parts_inside areas xs ys region good = on_inside areas xs ys region (axis_to_cut region) good

@@ -1,9 +1,9 @@
 -- Each point in exactly one region: what that says of a region, and that the cut keeps it.
-use Rattle.std.proofs.Common.{◌≡◌, ℕ, zero, suc, ◌+◌, ◌<◌, ◌≤◌, Bool, not, List, [], ◌∷◌, ◌++◌, length, get_or, take, drop, sum, Option, Some, None, refl, sym, ◌∙◌, ap, subst, arith}
-use Rattle.std.specs.Prelude.{map, All, sum_by, slice_index, filter}
-use Rattle.std.specs.List.{flat_map, range_with_len}
+use Rattle.std.proofs.Common.{◌≡◌, ℕ, zero, suc, ◌<◌, ◌≤◌, not, List, [], ◌∷◌, ◌++◌, length, get_or, sum, Option, Some, None, refl, sym, ◌∙◌, ap, subst, arith}
+use Rattle.std.specs.Prelude.{map, All, sum_by, slice_index}
+use Rattle.std.specs.List.{range_with_len}
 use Rattle.std.specs.List.Sorted.{IsPermutation}
-use Rattle.std.proofs.lemmas.List.{take_at, drop_at, append-nil, append_assoc}
+use Rattle.std.proofs.lemmas.List.{take_at, drop_at, append-nil}
 use Rattle.std.proofs.lemmas.List.Concat.{flat_map-append}
 use Rattle.std.proofs.lemmas.List.Elements.{All-take, All-drop, All-from_get_or}
 use Rattle.std.proofs.lemmas.List.FromFn.{length-range_with_len, get_or-range_with_len, fill_by_all}
@@ -63,8 +63,8 @@ halves_keep areas mids axis region =
     let second = second_points areas mids region.points in
     let line = line_of areas mids axis region in
     let is : all_points (halves areas mids axis region) ≡ first ++ second =
-        ap (λ (ps : List ℕ). ps ++ ((above axis region line second).points ++ [])) (points_below axis region line first)
-        ∙ ap (λ (ps : List ℕ). first ++ (ps ++ [])) (points_above axis region line second) ∙ ap (λ (ps : List ℕ). first ++ ps) (append-nil second) in
+    ap (λ (ps : List ℕ). ps ++ ((above axis region line second).points ++ [])) (points_below axis region line first)
+    ∙ ap (λ (ps : List ℕ). first ++ (ps ++ [])) (points_above axis region line second) ∙ ap (λ (ps : List ℕ). first ++ ps) (append-nil second) in
     subst (λ (ps : List ℕ). IsPermutation region.points ps) (sym is) (IsPermutation-filter_both (in_first areas mids region.points) (λ p. not (in_first areas mids region.points p)) (λ _. refl) region.points)
 
 parts_keep_points : (areas xs ys : List ℕ) (region : Region) (axis : Option Axis) → IsPermutation region.points (all_points (parts_on areas xs ys region axis))
@@ -78,7 +78,7 @@ pub cut_keeps_points : (areas xs ys : List ℕ) (regions : List Region) → IsPe
 cut_keeps_points areas xs ys [] = IsPermutation-refl []
 cut_keeps_points areas xs ys (region ∷ regions) =
     subst (λ (ps : List ℕ). IsPermutation (region.points ++ all_points regions) ps) (sym (flat_points (parts_of areas xs ys region) (cut_of areas xs ys regions)))
-        (IsPermutation-append region.points (all_points (parts_of areas xs ys region)) (all_points regions) (all_points (cut_of areas xs ys regions)) (parts_keep_points areas xs ys region (axis_to_cut region)) (cut_keeps_points areas xs ys regions))
+    (IsPermutation-append region.points (all_points (parts_of areas xs ys region)) (all_points regions) (all_points (cut_of areas xs ys regions)) (parts_keep_points areas xs ys region (axis_to_cut region)) (cut_keeps_points areas xs ys regions))
 
 pub cut_keeps_partition : (n : ℕ) (areas xs ys : List ℕ) (regions : List Region) → ArePartition n regions → ArePartition n (cut_of areas xs ys regions)
 cut_keeps_partition n areas xs ys regions partition = IsPermutation-trans (range_with_len 0 n) (all_points regions) (all_points (cut_of areas xs ys regions)) partition (cut_keeps_points areas xs ys regions)

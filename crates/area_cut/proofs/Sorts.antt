@@ -1,11 +1,11 @@
 -- Points can be put in order, and the order has a first part.
-use Rattle.std.proofs.Common.{◌≡◌, ◌≢◌, ◌⊎◌, ℕ, zero, suc, ◌+◌, ◌*◌, ◌<◌, ◌≤◌, Bool, true, false, cond, List, [], ◌∷◌, ◌++◌, length, take, refl, sym, ◌∙◌, ap, subst, inl, inr, arith}
+use Rattle.std.proofs.Common.{◌≡◌, ◌≢◌, ◌⊎◌, ℕ, zero, suc, ◌+◌, ◌*◌, ◌<◌, ◌≤◌, Bool, true, false, cond, List, [], ◌∷◌, length, take, refl, subst, inl, inr, arith}
 use Rattle.std.specs.Prelude.{All}
 use Rattle.std.specs.List.{AllPairs}
 use Rattle.std.specs.List.Sorted.{IsPermutation, IsStrictlyIncreasing}
 use Rattle.std.proofs.lemmas.Bool.{cases_lt}
 use Rattle.std.proofs.lemmas.Bool.Decides.{nat_tests}
-use Rattle.std.proofs.lemmas.List.Elements.{All-nil, All-cons, All-tail, All-head, All-weaker}
+use Rattle.std.proofs.lemmas.List.Elements.{All-cons, All-tail, All-head, All-weaker}
 use Rattle.std.proofs.lemmas.List.Kept.{AllPairs-cons, AllPairs-from_increasing}
 use Rattle.std.proofs.lemmas.List.Sorted.{IsPermutation-refl, IsPermutation-sym, IsPermutation-trans, IsPermutation-cons, IsPermutation-middle, All-permutation}
 use Rattle.area_cut.specs.Cut.{area_of, precedes}
@@ -54,11 +54,13 @@ pub in_order : (mids points : List ℕ) → AllPairs (λ p q. p < q) points → 
 in_order mids [] h = ([], record { same = IsPermutation-refl []; rises = λ i j d l m. absurd (omega arith) })
 in_order mids (p ∷ points) h =
     let rest = in_order mids points (pairs_tail (λ p q. p < q) p points h) in
-    let apart : All (λ q. p ≢ q) points = All-weaker (λ q. p < q) (λ q. p ≢ q) (λ q l e. omega arith) points (pairs_head (λ p q. p < q) p points h) in
-    (insert_in mids p rest.0, record {
-      same = IsPermutation-trans (p ∷ points) (p ∷ rest.0) (insert_in mids p rest.0) (IsPermutation-cons p points rest.0 rest.1.same) (insert_moves mids p rest.0);
-      rises = insert_rises mids p rest.0 rest.1.rises (All-permutation (λ q. p ≢ q) points rest.0 rest.1.same apart);
-    })
+    let apart : All (λ q. p ≢ q) points = All-weaker (λ q. p < q) (λ q. p ≢ q) (λ q l e. omega arith) points (pairs_head (λ p q. p < q) p points h) in (
+      insert_in mids p rest.0,
+      record {
+        same = IsPermutation-trans (p ∷ points) (p ∷ rest.0) (insert_in mids p rest.0) (IsPermutation-cons p points rest.0 rest.1.same) (insert_moves mids p rest.0);
+        rises = insert_rises mids p rest.0 rest.1.rises (All-permutation (λ q. p ≢ q) points rest.0 rest.1.same apart);
+      },
+    )
 
 -- ---- the first part
 

@@ -89,7 +89,15 @@ fn divide(
     ensures { OnOk result (parts.new ≡ parts.old ++ parts_of areas.now xs.now ys.now region.now) }
 {
     match region.axis_to_cut() {
-        Some(axis) => halve(alloc, region, axis, areas, mids_on(axis, xs, ys), order, parts),
+        Some(axis) => halve(
+            alloc,
+            region,
+            axis,
+            areas,
+            mids_on(axis, xs, ys),
+            order,
+            parts,
+        ),
         None => keep(alloc, region, parts),
     }
 }

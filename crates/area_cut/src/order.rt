@@ -16,7 +16,11 @@ pub(crate) struct Placed {
 }
 
 /// Puts points in order, in place of what the list held.
-pub(crate) fn put_in_order(order: &mut Vec<Placed>, points: &[u32], mids: &[u64]) -> Result<(), Memory>
+pub(crate) fn put_in_order(
+    order: &mut Vec<Placed>,
+    points: &[u32],
+    mids: &[u64],
+) -> Result<(), Memory>
     requires there { All (λ p. p < length mids.now) points.now }
     requires ascending { IsStrictlyIncreasing points.now }
     ensures order { OnOk result (IsInOrder mids.now points.now (numbers_of order.new.items)) }

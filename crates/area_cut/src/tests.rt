@@ -53,7 +53,10 @@ fn are(rt: &impl Abort, regions: &Regions, rows: &[Row]) {
     let regions = regions.as_slice();
     assert_eq!(rt; regions.len(), rows.len());
     for (region, (xlo, xhi, ylo, yhi, points)) in regions.iter().zip(rows) {
-        assert_eq!(rt; (region.xlo, region.xhi, region.ylo, region.yhi), (*xlo, *xhi, *ylo, *yhi));
+        assert_eq!(rt;
+            (region.xlo, region.xhi, region.ylo, region.yhi),
+            (*xlo, *xhi, *ylo, *yhi)
+        );
         assert!(rt; region.points.as_slice() == *points);
     }
 }
@@ -111,7 +114,14 @@ fn regions_are_cut(rt: HostRuntime) -> Result<(), Fail> {
             &[(0, 2, 0, 0, &[0]), (2, 5, 0, 0, &[1, 2])],
         ),
         // a region without sides stays, and so does one with a single point, or none
-        ((0, 0), &[1, 1], &[0, 0], &[0, 0], 2, &[(0, 0, 0, 0, &[0, 1])]),
+        (
+            (0, 0),
+            &[1, 1],
+            &[0, 0],
+            &[0, 0],
+            2,
+            &[(0, 0, 0, 0, &[0, 1])],
+        ),
         ((9, 9), &[7], &[1], &[1], 2, &[(0, 9, 0, 9, &[0])]),
         ((9, 9), &[], &[], &[], 2, &[(0, 9, 0, 9, &[])]),
         // the parts of each region stand in its place
@@ -132,7 +142,11 @@ fn regions_are_cut(rt: HostRuntime) -> Result<(), Fail> {
     for (ends, areas, xs, ys, times, rows) in cases {
         assert!(rt; areas.len() <= 4 && xs.len() == areas.len() && ys.len() == areas.len());
         assert!(rt; is_light(areas));
-        are(&rt, &cut_often(rt.alloc(), ends, areas, xs, ys, times)?, rows);
+        are(
+            &rt,
+            &cut_often(rt.alloc(), ends, areas, xs, ys, times)?,
+            rows,
+        );
     }
     Ok(())
 }

@@ -34,4 +34,4 @@ returns-clause-partition c =
     let lent = c.as_slice-region-items.ensures.regions in
     let all : take c.loop-region.region-index items ≡ items = take_all c.loop-region.region-index items (omega arith) in
     subst (ArePartition (length areas)) (sym (c.loop-region.invariant ∙ ap (cut_of areas c.args.xs.now c.args.ys.now) (all ∙ lent)))
-        (cut_keeps_partition (length areas) areas c.args.xs.now c.args.ys.now c.args.regions.now c.requires.partition)
+    (cut_keeps_partition (length areas) areas c.args.xs.now c.args.ys.now c.args.regions.now c.requires.partition)

@@ -18,4 +18,4 @@ returns-clause-partition c =
     let region : Region = record { xlo = c.args.xlo; xhi = c.args.xhi; ylo = c.args.ylo; yhi = c.args.yhi; points = c.loop-point.list } in
     let all : c.loop-point.point ≡ c.args.points = omega arith in
     subst (ArePartition c.args.points) (sym (c.in_ok-push-2.ensures ∙ ap (λ (rs : List Region). rs ++ region ∷ []) c.new-regions.ensures))
-        (one_region c.args.points region (c.loop-point.invariant ∙ ap (range_with_len 0) all))
+    (one_region c.args.points region (c.loop-point.invariant ∙ ap (range_with_len 0) all))

@@ -1,4 +1,4 @@
-use Rattle.std.proofs.Common.{ℕ, arith}
+use Rattle.std.proofs.Common.{arith}
 use Rattle.area_cut.specs.declared.order.Placed.{Placed}
 use Rattle.area_cut.specs.Forms.Placed.{numbers_of}
 use Rattle.area_cut.proofs.Halving.{walk_fits, walk_more, fewer_more}

@@ -1,0 +1,10 @@
+mod Parts
+mod Constants
+mod Chains
+mod Valid
+mod Outer
+mod Areas
+mod Greatest
+mod Shared
+mod NoMids
+mod One

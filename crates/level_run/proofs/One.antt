@@ -1,0 +1,202 @@
+-- There is exactly one list of levels, and each of its systems is valid.
+use Rattle.std.proofs.Common.{◌≡◌, ℕ, zero, suc, ◌+◌, ◌/◌, ◌<◌, ◌≤◌, ◌⊎◌, List, [], ◌∷◌, ◌++◌, length, get_or, refl, sym, ◌∙◌, ap, subst, inl, inr, arith}
+use Rattle.std.specs.Prelude.{map, ℤ}
+use Rattle.std.specs.List.{range_with_len}
+use Rattle.std.proofs.lemmas.Bool.{cases_lt}
+use Rattle.std.proofs.lemmas.List.{ext_get_or, length_push, get_or_append_left, get_or_push, get_or_default}
+use Rattle.std.proofs.lemmas.List.FromFn.{length-map-range_with_len}
+use Rattle.pad_reach.specs.Chain.{HasChain}
+use Rattle.relax_system.specs.declared.points.Point.{Point}
+use Rattle.relax_system.specs.System.{IsValid, joints_of as joints_of_system}
+use Rattle.relax_system.specs.Means.{AtMost}
+use Rattle.relax_system.specs.Exact.{IsExact, IsBetween, HasLowerResiduals, HasUpperResiduals}
+use Rattle.relax_system.specs.Extremal.{IsLeast, IsGreatest}
+use Rattle.area_cut.specs.declared.axis.Axis.{Axis}
+use Rattle.area_cut.specs.declared.axis.Axis.TheVariants.{X, Y}
+use Rattle.area_cut.specs.declared.region.Region.{Region}
+use Rattle.area_cut.specs.Regions.{ArePartition, AreShares, HaveHomes}
+use Rattle.area_cut.specs.Cut.{cut_of}
+use Rattle.net_model.specs.Values.{NetworkValue}
+use Rattle.net_model.specs.WellFormed.{IsNet}
+use Rattle.net_model.specs.Webs.{joints_of}
+use Rattle.level_run.specs.declared.level.Solve.{Solve}
+use Rattle.level_run.specs.declared.level.Level.{Level}
+use Rattle.level_run.specs.LevelSystem.{level_system}
+use Rattle.level_run.specs.Levels.{halfway, IsSolve, IsLevel, core_region, areas_of, no_mids, next_regions, IsFirst, IsNext, IsLevels, HasChains, no_level, solve_on, level_at, mids_before, system_of, Encloses}
+use Rattle.level_run.specs.Forms.Solved.{IsSane}
+use Rattle.level_run.proofs.Chains.{length_system, chains_stay}
+use Rattle.level_run.proofs.Shared.{core_shares}
+use Rattle.level_run.proofs.Valid.{system_is_valid}
+
+-- what the crates below say
+pub record Laws : Type 0 where
+  pub shares : (points limit : ℕ) (areas xs ys : List ℕ) (regions : List Region) → AreShares points limit regions → AreShares points limit (cut_of areas xs ys regions)
+  pub homes : (points : ℕ) (regions : List Region) → ArePartition points regions → HaveHomes points regions
+  pub least_there : (points : List Point) → IsValid points → (v : List ℕ) × IsLeast points v
+  pub least_one : (points : List Point) (u v : List ℕ) → IsValid points → IsLeast points u → IsLeast points v → u ≡ v
+  pub greatest_there : (points : List Point) → IsValid points → (v : List ℕ) × IsGreatest points v
+  pub greatest_one : (points : List Point) (u v : List ℕ) → IsValid points → IsGreatest points u → IsGreatest points v → u ≡ v
+
+pub record Bounds : Type 0 where
+  pub ordered : (points : List Point) (lo hi : List ℕ) → IsValid points → IsLeast points lo → IsGreatest points hi → AtMost lo hi
+  pub lower : (points : List Point) (lo : List ℕ) → IsValid points → IsLeast points lo → HasLowerResiduals points lo
+  pub upper : (points : List Point) (hi : List ℕ) → IsValid points → IsGreatest points hi → HasUpperResiduals points hi
+  pub encloses : (points : List Point) (lo hi : List ℕ) (d : ℕ) (z : List ℤ) → IsValid points → ((p : ℕ) → p < length points → HasChain (joints_of_system points) p) → IsLeast points lo → IsGreatest points hi → IsExact points d z → IsBetween lo hi d z
+
+pub mid_length : (axis : Axis) (network : NetworkValue) (regions : List Region) (mids : List ℕ) (solve : Solve) → IsSolve (level_system axis network regions mids) solve → length solve.mid ≡ length network.points
+mid_length axis network regions mids solve is =
+    let many = length-map-range_with_len (λ (i : ℕ). (get_or solve.lo i 0 + get_or solve.hi i 0) / 2) 0 (length solve.lo) in
+    ap length is.mid ∙ many ∙ is.lo.in_boxes.all ∙ length_system axis network regions mids
+
+pub level_sane : (network : NetworkValue) (regions : List Region) (xs ys : List ℕ) (level : Level) → AreShares (length network.points) 2000000000000 regions → IsLevel network regions xs ys level → IsSane network level
+level_sane network regions xs ys level shares is = record {
+  shares = subst (λ (rs : List Region). AreShares (length network.points) 2000000000000 rs) (sym is.regions) shares;
+  xs = mid_length X network regions xs level.x is.x;
+  ys = mid_length Y network regions ys level.y is.y;
+}
+
+pub next_sane : (share : (points limit : ℕ) (areas xs ys : List ℕ) (regions : List Region) → AreShares points limit regions → AreShares points limit (cut_of areas xs ys regions)) (network : NetworkValue) (level next : Level) → IsSane network level → IsNext network level next → IsSane network next
+next_sane share network level next sane is =
+    level_sane network (next_regions network level) level.x.mid level.y.mid next (share (length network.points) 2000000000000 (areas_of network) level.x.mid level.y.mid level.regions sane.shares) is
+
+abbrev solve_of : List ℕ → List ℕ → List ℕ → Solve
+solve_of lo hi mid = record { lo = lo; hi = hi; mid = mid }
+
+same_solve : (laws : Laws) (points : List Point) (a b : Solve) → IsValid points → IsSolve points a → IsSolve points b → a ≡ b
+same_solve laws points a b valid one other =
+    let lo = laws.least_one points a.lo b.lo valid one.lo other.lo in
+    let hi = laws.greatest_one points a.hi b.hi valid one.hi other.hi in
+    let mid : a.mid ≡ b.mid = one.mid ∙ ap (λ (v : List ℕ). halfway v a.hi) lo ∙ ap (λ (v : List ℕ). halfway b.lo v) hi ∙ sym other.mid in
+    ap (λ (v : List ℕ). solve_of v a.hi a.mid) lo ∙ ap (λ (v : List ℕ). solve_of b.lo v a.mid) hi ∙ ap (λ (v : List ℕ). solve_of b.lo b.hi v) mid
+
+solve_there : (laws : Laws) (points : List Point) → IsValid points → (solve : Solve) × IsSolve points solve
+solve_there laws points valid =
+    let lo = laws.least_there points valid in
+    let hi = laws.greatest_there points valid in
+    (record { lo = lo.0; hi = hi.0; mid = halfway lo.0 hi.0 }, record { lo = lo.1; hi = hi.1; mid = refl })
+
+abbrev level_of : List Region → Solve → Solve → Level
+level_of regions x y = record { regions = regions; x = x; y = y }
+
+-- ---- one level, and one more
+
+pub one_level : (network : NetworkValue) (level : Level) → IsFirst network level → IsLevels network 0 (level ∷ [])
+one_level network level first = record { many = refl; first = λ d. first; next = λ k d inside. absurd (omega arith) }
+
+pub one_level_more : (network : NetworkValue) (count : ℕ) (levels : List Level) (next d : Level) → IsLevels network count levels → IsNext network (get_or levels count d) next → IsLevels network (count + 1) (levels ++ next ∷ [])
+one_level_more network count levels next d is step = record {
+  many = omega (arith, length_push levels next, many);
+  first = λ e. subst (λ (level : Level). IsFirst network level) (sym (get_or_append_left levels (next ∷ []) e 0 (omega (arith, many)))) (is.first e);
+  next = λ k e inside. by_cases k e (cases_lt k count) inside;
+} where
+  many : length levels ≡ count + 1
+  many = is.many
+
+  own : (k : ℕ) (e : Level) → k < count + 1 → get_or (levels ++ next ∷ []) k e ≡ get_or levels k e
+  own k e inside = get_or_append_left levels (next ∷ []) e k (omega (arith, many))
+
+  by_cases : (k : ℕ) (e : Level) → (k < count) ⊎ (count ≤ k) → k < count + 1 → IsNext network (get_or (levels ++ next ∷ []) k e) (get_or (levels ++ next ∷ []) (k + 1) e)
+  by_cases k e (inl before) inside =
+      subst (λ (a : Level). IsNext network a (get_or (levels ++ next ∷ []) (k + 1) e)) (sym (own k e inside))
+          (subst (λ (b : Level). IsNext network (get_or levels k e) b) (sym (own (k + 1) e (omega arith))) (is.next k e before))
+  by_cases k e (inr at) inside =
+      let same : k ≡ count = omega arith in
+      let last : get_or (levels ++ next ∷ []) (k + 1) e ≡ next = get_or_push levels next e (k + 1) (omega (arith, many)) in
+      let level : get_or (levels ++ next ∷ []) k e ≡ get_or levels count d = own k e inside ∙ ap (λ (j : ℕ). get_or levels j e) same ∙ get_or_default levels count e d (omega (arith, many)) in
+      subst (λ (a : Level). IsNext network a (get_or (levels ++ next ∷ []) (k + 1) e)) (sym level) (subst (λ (b : Level). IsNext network (get_or levels count d) b) (sym last) step)
+
+module _ (share : (points limit : ℕ) (areas xs ys : List ℕ) (regions : List Region) → AreShares points limit regions → AreShares points limit (cut_of areas xs ys regions)) (network : NetworkValue) (net : IsNet network) where
+  pub next_shares : (level : Level) → IsSane network level → AreShares (length network.points) 2000000000000 (next_regions network level)
+  next_shares level sane = share (length network.points) 2000000000000 (areas_of network) level.x.mid level.y.mid level.regions sane.shares
+
+  pub sane_at : (count : ℕ) (levels : List Level) → IsLevels network count levels → (k : ℕ) (d : Level) → k < length levels → IsSane network (get_or levels k d)
+  sane_at count levels is zero d inside = level_sane network (core_region network ∷ []) (no_mids network) (no_mids network) (get_or levels 0 d) (core_shares network net) (is.first d)
+  sane_at count levels is (suc k) d inside =
+      let before = sane_at count levels is k d (omega arith) in
+      let e : k + 1 ≡ suc k = omega arith in
+      let step : IsNext network (get_or levels k d) (get_or levels (suc k) d) = subst (λ (j : ℕ). IsNext network (get_or levels k d) (get_or levels j d)) e (is.next k d (omega (arith, is.many))) in
+      next_sane share network (get_or levels k d) (get_or levels (suc k) d) before step
+
+module _ (laws : Laws) (network : NetworkValue) (net : IsNet network) (chains : HasChains network) where
+  valid_with : (axis : Axis) (regions : List Region) (mids : List ℕ) → AreShares (length network.points) 2000000000000 regions → IsValid (level_system axis network regions mids)
+  valid_with axis regions mids shares = system_is_valid axis network regions mids net (laws.homes (length network.points) regions shares.partition) shares.good shares.within chains
+
+  same_level : (regions : List Region) (xs ys : List ℕ) (a b : Level) → AreShares (length network.points) 2000000000000 regions → IsLevel network regions xs ys a → IsLevel network regions xs ys b → a ≡ b
+  same_level regions xs ys a b shares one other =
+      let x = same_solve laws (level_system X network regions xs) a.x b.x (valid_with X regions xs shares) one.x other.x in
+      let y = same_solve laws (level_system Y network regions ys) a.y b.y (valid_with Y regions ys shares) one.y other.y in
+      let rs : a.regions ≡ b.regions = one.regions ∙ sym other.regions in
+      ap (λ (r : List Region). level_of r a.x a.y) rs ∙ ap (λ (s : Solve). level_of b.regions s a.y) x ∙ ap (λ (s : Solve). level_of b.regions b.x s) y
+
+  level_there : (regions : List Region) (xs ys : List ℕ) → AreShares (length network.points) 2000000000000 regions → (level : Level) × IsLevel network regions xs ys level
+  level_there regions xs ys shares =
+      let x = solve_there laws (level_system X network regions xs) (valid_with X regions xs shares) in
+      let y = solve_there laws (level_system Y network regions ys) (valid_with Y regions ys shares) in
+      (record { regions = regions; x = x.0; y = y.0 }, record { regions = refl; x = x.1; y = y.1 })
+
+  -- ---- at most one
+
+  same_at : (count : ℕ) (a b : List Level) → IsLevels network count a → IsLevels network count b → (k : ℕ) (d : Level) → k < length a → get_or a k d ≡ get_or b k d
+  same_at count a b one other zero d inside = same_level (core_region network ∷ []) (no_mids network) (no_mids network) (get_or a 0 d) (get_or b 0 d) (core_shares network net) (one.first d) (other.first d)
+  same_at count a b one other (suc k) d inside =
+      let many = one.many in
+      let also = other.many in
+      let before = same_at count a b one other k d (omega arith) in
+      let e : k + 1 ≡ suc k = omega arith in
+      let step : IsNext network (get_or a k d) (get_or a (suc k) d) = subst (λ (j : ℕ). IsNext network (get_or a k d) (get_or a j d)) e (one.next k d (omega (arith, one.many))) in
+      let step_there : IsNext network (get_or b k d) (get_or b (suc k) d) = subst (λ (j : ℕ). IsNext network (get_or b k d) (get_or b j d)) e (other.next k d (omega (arith, other.many, one.many))) in
+      let step_too : IsNext network (get_or a k d) (get_or b (suc k) d) = subst (λ (level : Level). IsNext network level (get_or b (suc k) d)) (sym before) step_there in
+      let level = get_or a k d in
+      same_level (next_regions network level) level.x.mid level.y.mid (get_or a (suc k) d) (get_or b (suc k) d) (next_shares laws.shares network net level (sane_at laws.shares network net count a one k d (omega arith))) step step_too
+
+  pub levels_one : (count : ℕ) (a b : List Level) → IsLevels network count a → IsLevels network count b → a ≡ b
+  levels_one count a b one other =
+      let many = one.many in
+      let also = other.many in
+      ext_get_or no_level a b (omega arith) (λ i inside. same_at count a b one other i no_level inside)
+
+  -- ---- at least one
+
+  pub levels_there : (count : ℕ) → (levels : List Level) × IsLevels network count levels
+  levels_there zero =
+      let first = level_there (core_region network ∷ []) (no_mids network) (no_mids network) (core_shares network net) in
+      (first.0 ∷ [], one_level network first.0 first.1)
+  levels_there (suc count) =
+      let front = levels_there count in
+      let many = front.1.many in
+      let sane = sane_at laws.shares network net count front.0 front.1 count no_level (omega arith) in
+      let level = get_or front.0 count no_level in
+      let next = level_there (next_regions network level) level.x.mid level.y.mid (next_shares laws.shares network net level sane) in
+      let e : count + 1 ≡ suc count = omega arith in
+      (front.0 ++ next.0 ∷ [], subst (λ (n : ℕ). IsLevels network n (front.0 ++ next.0 ∷ [])) e (one_level_more network count front.0 next.0 no_level front.1 next.1))
+
+  -- ---- what each level was solved by
+
+  solved_at : (count : ℕ) (levels : List Level) → IsLevels network count levels → (axis : Axis) (k : ℕ) → k < length levels → IsSolve (system_of axis network levels k) (solve_on axis (level_at levels k))
+  solved_at count levels is X zero inside = let first = is.first no_level in subst (λ (rs : List Region). IsSolve (level_system X network rs (no_mids network)) (level_at levels 0).x) (sym first.regions) first.x
+  solved_at count levels is Y zero inside = let first = is.first no_level in subst (λ (rs : List Region). IsSolve (level_system Y network rs (no_mids network)) (level_at levels 0).y) (sym first.regions) first.y
+  solved_at count levels is X (suc k) inside =
+      let e : k + 1 ≡ suc k = omega arith in
+      let step : IsNext network (level_at levels k) (level_at levels (suc k)) = subst (λ (j : ℕ). IsNext network (level_at levels k) (level_at levels j)) e (is.next k no_level (omega (arith, is.many))) in
+      subst (λ (rs : List Region). IsSolve (level_system X network rs (level_at levels k).x.mid) (level_at levels (suc k)).x) (sym step.regions) step.x
+  solved_at count levels is Y (suc k) inside =
+      let e : k + 1 ≡ suc k = omega arith in
+      let step : IsNext network (level_at levels k) (level_at levels (suc k)) = subst (λ (j : ℕ). IsNext network (level_at levels k) (level_at levels j)) e (is.next k no_level (omega (arith, is.many))) in
+      subst (λ (rs : List Region). IsSolve (level_system Y network rs (level_at levels k).y.mid) (level_at levels (suc k)).y) (sym step.regions) step.y
+
+  pub valid_at : (count : ℕ) (levels : List Level) → IsLevels network count levels → (axis : Axis) (k : ℕ) → k < length levels → IsValid (system_of axis network levels k)
+  valid_at count levels is axis k inside = valid_with axis (level_at levels k).regions (mids_before axis network levels k) (sane_at laws.shares network net count levels is k no_level inside).shares
+
+  pub encloses_at : (bounds : Bounds) (count : ℕ) (levels : List Level) → IsLevels network count levels → (axis : Axis) (k : ℕ) → k < length levels → Encloses (system_of axis network levels k) (solve_on axis (level_at levels k))
+  encloses_at bounds count levels is axis k inside =
+      let points = system_of axis network levels k in
+      let solve = solve_on axis (level_at levels k) in
+      let valid = valid_at count levels is axis k inside in
+      let solved = solved_at count levels is axis k inside in
+      let many = length_system axis network (level_at levels k).regions (mids_before axis network levels k) in
+      record {
+        ordered = bounds.ordered points solve.lo solve.hi valid solved.lo solved.hi;
+        lower = bounds.lower points solve.lo valid solved.lo;
+        upper = bounds.upper points solve.hi valid solved.hi;
+        encloses = λ d z exact. bounds.encloses points solve.lo solve.hi d z valid (λ p there. let in_network : p < length network.points = omega arith in chains_stay axis network (level_at levels k).regions (mids_before axis network levels k) p net in_network (chains p in_network)) solved.lo solved.hi exact;
+      }

@@ -1,0 +1,3 @@
+pub mod LevelSystem
+pub mod Levels
+pub mod Forms

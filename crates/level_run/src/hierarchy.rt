@@ -1,0 +1,166 @@
+//! The levels of a network: the chip is cut over and over, and each level is solved against the one before.
+
+ghost use Rattle.std.specs.Prelude.{◌≡◌, ℕ, ◌+◌, ◌^◌, ◌<◌, ◌≤◌, ◌∷◌, [], length, map, replicate, slice_index, sum, IfOk};
+ghost use Rattle.pad_reach.specs.Reaches.{Reaches};
+ghost use Rattle.area_cut.specs.Regions.{AreShares};
+ghost use Rattle.relax_crew.specs.Crew.{IsCrewSize};
+ghost use Rattle.net_model.specs.Webs.{joints_of};
+ghost use Rattle.net_model.specs.WellFormed.{IsNet};
+ghost use Rattle.level_run.specs.Levels.{IsLevel, IsFirst, IsNext, IsLevels, HasChains, areas_of, no_mids, core_region};
+ghost use Rattle.level_run.specs.Forms.Solved.{IsSane};
+ghost use Rattle.level_run.specs.LevelSystem.{coordinate};
+ghost use Rattle.book_files.specs.Ranges.{IsInRange};
+
+use crate::level::{Level, Levels};
+use crate::projection::{coordinate, project};
+use crate::solving::Crew;
+use area_cut::{Axis, Regions, cut, parts_share, whole};
+use book_outer::Gate;
+use book_text::Memory;
+use net_model::Network;
+use pad_reach::{Reach, reach_leads};
+use std::alloc::Global;
+use std::thread::Threads;
+
+/// How often the regions may be cut.
+pub const MOST_LEVELS: u32 = 12;
+
+/// How the levels are solved.
+#[derive(Clone, Copy, Debug)]
+pub struct Options {
+    /// How often the regions are cut: at most `MOST_LEVELS`. There is one level more.
+    pub levels: u32,
+    /// How many seats solve each system side by side: from 1 to `MOST_SEATS` of the crew.
+    pub seats: usize,
+}
+
+/// The first level, with all points in the core, and as many after it as the options say.
+///
+/// Each further level cuts the regions of the one before by its mids, and is solved with these mids. On each axis `lo` is the
+/// least and `hi` the greatest vector of the level's system, and `mid` lies halfway. Neither the seats nor the gate nor the
+/// run can change the answer, since there is exactly one list of levels. `reach` is the network's: it shows that a chain leads
+/// from each point to a pad. Only want of memory is refused.
+pub fn levels<R: Threads + Sync, G: Gate>(
+    rt: &R,
+    alloc: Global,
+    network: &Network,
+    reach: &Reach,
+    options: Options,
+    gate: &G,
+) -> Result<Levels, Memory>
+    requires reach { Reaches (joints_of network.now) reach.now }
+    requires levels { options.levels ≤ MOST_LEVELS }
+    requires seats { IsCrewSize options.seats }
+    ensures { IfOk result (IsLevels network.now options.levels) }
+{
+    reach_leads();
+    let _reach = reach;
+    let _points = network.points();
+    levels_by(alloc, &Crew::new(rt, gate, options.seats), network, options.levels)
+}
+
+/// The levels, by any solver.
+fn levels_by<R: Threads + Sync, G: Gate>(
+    alloc: Global,
+    solver: &Crew<'_, R, G>,
+    network: &Network,
+    count: u32,
+) -> Result<Levels, Memory>
+    requires chains { HasChains network.now }
+    requires few { count ≤ MOST_LEVELS }
+    ensures { IfOk result (IsLevels network.now count) }
+{
+    parts_share();
+    let _points = network.points();
+    let areas = areas(alloc, network)?;
+    let mut levels = Levels::new(alloc);
+    levels.push(first_level(alloc, solver, network)?)?;
+    for n in 0..count {
+        let next = next_level(alloc, solver, network, &areas, &levels.as_slice()[n as usize])?;
+        levels.push(next)?;
+    }
+    Ok(levels)
+}
+
+/// The first level: all points share the core.
+fn first_level<R: Threads + Sync, G: Gate>(
+    alloc: Global,
+    solver: &Crew<'_, R, G>,
+    network: &Network,
+) -> Result<Level, Memory>
+    requires { HasChains network.now }
+    ensures { IfOk result (IsFirst network.now) }
+{
+    let core = network.core();
+    let regions = whole(
+        alloc,
+        network.points(),
+        core_end(core.xlo),
+        core_end(core.xhi),
+        core_end(core.ylo),
+        core_end(core.yhi),
+    )?;
+    let mids = vec![in alloc; 0; network.points()]?;
+    solved(alloc, solver, network, regions, &mids, &mids)
+}
+
+/// The level after this one.
+fn next_level<R: Threads + Sync, G: Gate>(
+    alloc: Global,
+    solver: &Crew<'_, R, G>,
+    network: &Network,
+    areas: &[u64],
+    level: &Level,
+) -> Result<Level, Memory>
+    requires chains { HasChains network.now }
+    requires areas { areas.now ≡ areas_of network.now }
+    requires sane { IsSane network.now level.now }
+    ensures { IfOk result (IsNext network.now level.now) }
+{
+    parts_share();
+    let _points = network.points();
+    let xs = level.x.mid.as_slice();
+    let ys = level.y.mid.as_slice();
+    let regions = cut(alloc, &level.regions, areas, xs, ys)?;
+    solved(alloc, solver, network, regions, xs, ys)
+}
+
+/// The level over these regions, solved with these mids.
+fn solved<R: Threads + Sync, G: Gate>(
+    alloc: Global,
+    solver: &Crew<'_, R, G>,
+    network: &Network,
+    regions: Regions,
+    xs: &[u64],
+    ys: &[u64],
+) -> Result<Level, Memory>
+    requires chains { HasChains network.now }
+    requires shares { AreShares (length network.now.points) 2000000000000 regions }
+    requires xs { length xs.now ≡ length network.now.points }
+    requires ys { length ys.now ≡ length network.now.points }
+    ensures { IfOk result (IsLevel network.now regions xs.now ys.now) }
+{
+    let x = solver.solve(alloc, &project(alloc, network, Axis::X, &regions, xs)?)?;
+    let y = solver.solve(alloc, &project(alloc, network, Axis::Y, &regions, ys)?)?;
+    Ok(Level { regions, x, y })
+}
+
+/// The areas of the points. They add up to fewer than 2^64 sites.
+fn areas(alloc: Global, network: &Network) -> Result<Vec<u64>, Memory>
+    ensures areas { IfOk result (λ areas. areas.items ≡ areas_of network.now) }
+    ensures fits { IfOk result (λ areas. sum areas.items < 2 ^ 64) }
+{
+    let mut areas = Vec::with_capacity(alloc, network.points())?;
+    for p in 0..network.points() {
+        areas.push(network.area(p as u32))?;
+    }
+    Ok(areas)
+}
+
+/// An end of the core as a coordinate.
+fn core_end(at: i64) -> u64
+    requires { IsInRange at }
+    ensures { result ≡ coordinate at }
+{
+    coordinate(at)
+}

@@ -1,0 +1,60 @@
+//! Laws of levels. Each is the contract of a function that does nothing.
+
+ghost use Rattle.std.specs.Prelude.{◌≡◌, ℕ, ◌<◌, ◌≤◌, List, [], ◌∷◌, length};
+ghost use Rattle.pad_reach.specs.Chain.{HasChain};
+ghost use Rattle.relax_system.specs.System.{IsValid, joints_of as system_joints};
+ghost use Rattle.area_cut.specs.declared.axis.Axis.{Axis};
+ghost use Rattle.area_cut.specs.declared.region.Region.{Region};
+ghost use Rattle.area_cut.specs.Regions.{AreShares};
+ghost use Rattle.net_model.specs.Values.{NetworkValue};
+ghost use Rattle.net_model.specs.WellFormed.{IsNet};
+ghost use Rattle.net_model.specs.Webs.{joints_of};
+ghost use Rattle.level_run.specs.declared.level.Level.{Level};
+ghost use Rattle.level_run.specs.LevelSystem.{level_system};
+ghost use Rattle.level_run.specs.Levels.{IsLevels, HasChains, Encloses, core_region, level_at, solve_on, system_of};
+
+use area_cut::{parts_share, points_have_homes};
+use relax_system::{enclosure, greatest_vector, least_vector};
+
+/// A network's chains are chains of each level's system, and where each point has one, the system is valid.
+pub fn chains_stay()
+    ensures chains { (axis : Axis) (network : NetworkValue) (regions : List Region) (mids : List ℕ) (p : ℕ) → IsNet network
+        → p < length network.points → HasChain (joints_of network) p → HasChain (system_joints (level_system axis network regions mids)) p }
+    ensures valid { (axis : Axis) (network : NetworkValue) (regions : List Region) (mids : List ℕ) → IsNet network → HasChains network
+        → AreShares (length network.points) 2000000000000 regions → IsValid (level_system axis network regions mids) }
+{
+    points_have_homes();
+}
+
+/// There is exactly one list of levels.
+pub fn levels_are_one()
+    ensures there { (network : NetworkValue) (count : ℕ) → IsNet network → HasChains network → (levels : List Level) × IsLevels network count levels }
+    ensures one { (network : NetworkValue) (count : ℕ) (a b : List Level) → IsNet network → HasChains network → IsLevels network count a → IsLevels network count b → a ≡ b }
+{
+    parts_share();
+    points_have_homes();
+    least_vector();
+    greatest_vector();
+}
+
+/// Each level's systems are valid; its lower and upper vectors are in order with small residuals, and enclose every exact solution.
+pub fn levels_enclose()
+    ensures valid { (network : NetworkValue) (count : ℕ) (levels : List Level) (axis : Axis) (k : ℕ) → IsNet network → HasChains network
+        → IsLevels network count levels → k ≤ count → IsValid (system_of axis network levels k) }
+    ensures encloses { (network : NetworkValue) (count : ℕ) (levels : List Level) (axis : Axis) (k : ℕ) → IsNet network → HasChains network
+        → IsLevels network count levels → k ≤ count → Encloses (system_of axis network levels k) (solve_on axis (level_at levels k)) }
+{
+    parts_share();
+    points_have_homes();
+    least_vector();
+    greatest_vector();
+    enclosure();
+}
+
+/// The first level uses no mids: whatever they are, its systems are the same.
+pub fn first_uses_no_mids()
+    ensures { (axis : Axis) (network : NetworkValue) (mids other : List ℕ) → IsNet network
+        → level_system axis network (core_region network ∷ []) mids ≡ level_system axis network (core_region network ∷ []) other }
+{
+    points_have_homes();
+}

@@ -1,0 +1,26 @@
+//! The levels of a placement: from a network to regions with their points, each level solved on both axes.
+//!
+//! The first level has one region, the core. Each further level cuts the regions of the one before by area, and its systems
+//! are those of the regions' points: neighbours in other regions stand still at the mids of the level before, clamped into
+//! the region. What comes in is a network from each point of which a chain leads to a pad; what goes out is its levels, or
+//! `Memory`.
+//!
+//! The contract: `levels` answers `IsLevels`, and the law `levels_are_one` says that there is exactly one such list.
+#![tactic(auto)]
+
+mod hierarchy;
+mod laws;
+mod level;
+mod projection;
+mod solving;
+mod spread;
+
+pub use area_cut::Axis;
+pub use hierarchy::{MOST_LEVELS, Options, levels};
+pub use laws::{chains_stay, first_uses_no_mids, levels_are_one, levels_enclose};
+pub use level::{Level, Levels, Solve};
+pub use projection::project;
+pub use spread::gap;
+
+#[cfg(test)]
+mod tests;
