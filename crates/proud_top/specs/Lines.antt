@@ -2,6 +2,7 @@
 use Rattle.std.specs.Prelude.{ℕ, List, [], ◌∷◌, ◌++◌, codes, decimal}
 use Rattle.book_files.specs.declared.records.FileKind.{FileKind}
 use Rattle.book_files.specs.declared.records.FileKind.TheVariants.{Aux, Nodes, Nets, Wts, Pl, Scl}
+use Rattle.book_files.specs.declared.loading.TheConstants.{MOST_BYTES}
 use Rattle.book_files.specs.declared.fault.TextKind.{TextKind}
 use Rattle.book_files.specs.declared.fault.TextKind.TheVariants.{BadHeader, BadLine, BadNumber, CountMismatch}
 use Rattle.book_design.specs.declared.fault.DesignFault.{DesignFault}
@@ -79,8 +80,12 @@ net_cause (NetTooWide number) name = wide_cause number
 net_cause (TooManyEdges number) name = edges_cause number
 net_cause (Heavy point) name = node_cause name (codes "too heavy")
 
+-- a file of that kind is longer than a file may be
+abbrev pub long_cause : List ℕ → List ℕ
+long_cause kind = kind ++ codes ": longer than " ++ decimal MOST_BYTES ++ codes " bytes"
+
 abbrev pub cause_text : Refusal → List ℕ → List ℕ
-cause_text (TooLong kind) name = kind_text kind ++ codes ": longer than 268435456 bytes"
+cause_text (TooLong kind) name = long_cause (kind_text kind)
 cause_text (Text kind fault) name = line_place kind fault.line ++ text_cause fault.kind
 cause_text (Design fault) name = design_cause fault name
 cause_text (Net fault) name = net_cause fault name

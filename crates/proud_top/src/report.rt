@@ -2,22 +2,20 @@
 
 ghost use Rattle.std.specs.Prelude.{◌≡◌, ◌++◌, length, decimal, IfOk, OnOk};
 ghost use Rattle.book_design.specs.Values.{node_values};
-ghost use Rattle.proud_top.specs.Report.{IsOver, signed_text, ends_text, report_line, report_from, names_of};
+ghost use Rattle.proud_top.specs.Forms.Over.{IsOver};
+ghost use Rattle.proud_top.specs.Report.{signed_text, ends_text, report_line, report_from, names_of};
 
-use crate::solution::Solution;
+use crate::solution::Solve;
 use book_design::Node;
-use book_text::Memory;
+use book_text::{MOST_MICRO, Memory};
 use std::alloc::Global;
-
-/// What a coordinate is shifted by, so that it isn't negative.
-const SHIFT: u64 = 1_000_000_000_000;
 
 /// The report: a line for each movable node, with its lower and its upper coordinate on each axis.
 pub(crate) fn report_text(
     alloc: Global,
     nodes: &[Node<'_>],
-    x: &Solution,
-    y: &Solution,
+    x: &Solve,
+    y: &Solve,
 ) -> Result<Vec<u8>, Memory>
     requires x { IsOver (length (names_of (node_values nodes.now))) x.now }
     requires y { IsOver (length (names_of (node_values nodes.now))) y.now }
@@ -64,11 +62,11 @@ fn push_ends(alloc: Global, text: &mut Vec<u8>, ends: (u64, u64)) -> Result<(), 
 fn push_coordinate(alloc: Global, text: &mut Vec<u8>, at: u64) -> Result<(), Memory>
     ensures { OnOk result (text.new.items ≡ text.old.items ++ signed_text at) }
 {
-    if at < SHIFT {
+    if at < MOST_MICRO {
         text.push(b'-')?;
-        push_decimal(alloc, text, SHIFT - at)
+        push_decimal(alloc, text, MOST_MICRO - at)
     } else {
-        push_decimal(alloc, text, at - SHIFT)
+        push_decimal(alloc, text, at - MOST_MICRO)
     }
 }
 
