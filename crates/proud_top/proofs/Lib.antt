@@ -1,10 +1,8 @@
 mod Folders
 mod Once
-mod Clash
-mod Chain
+mod OneEnd
+mod Gathering
+mod Naming
 mod Points
 mod Reporting
-mod OneReport
-mod FromSays
-mod OneEnd
 mod Saying

@@ -21,8 +21,7 @@ use Rattle.book_design.specs.Answers.{HasOneJoin}
 use Rattle.net_model.specs.Answers.{HasOneNetwork}
 use Rattle.proud_top.specs.Request.{beside}
 use Rattle.proud_top.specs.Order.{rank, name_of}
-use Rattle.proud_top.specs.Accepted.{Reads, ReadsWeights, Accepts, IsAccepted, IsReached, IsFaultOf}
-use Rattle.proud_top.specs.Refused.{IsTooLong, IsBadText}
+use Rattle.proud_top.specs.Accepted.{Reads, ReadsWeights, Accepts, IsReadable, IsAccepted, IsNextFile, IsFaultOf, IsTooLong, IsBadText}
 
 -- what the laws of the readers, of the join and of the network say
 pub record OneAnswer : Type 0 where
@@ -35,23 +34,25 @@ pub record OneAnswer : Type 0 where
   pub join : (files : Records) → HasOneJoin files
   pub network : (design : DesignValue) → HasOneNetwork design
 
-one_text : (a b : List ℕ) → Some a ≡ Some b → a ≡ b
+pub one_text : (a b : List ℕ) → Some a ≡ Some b → a ≡ b
 one_text a b e = cc
 
 -- a file reads as one list of records
-same_records : {I R : Type 0} (grammar : Grammar I R) → ((text : List ℕ) → HasOneAnswer grammar text)
+pub same_records : {I R : Type 0} (grammar : Grammar I R) → ((text : List ℕ) → HasOneAnswer grammar text)
     → (files : List FileEntry) (name : List ℕ) (a b : R) → Reads files name grammar a → Reads files name grammar b → a ≡ b
 same_records grammar one files name a b h k =
     let same : h.text ≡ k.text = one_text _ _ (sym h.there ∙ k.there) in
     let P : List ℕ → Type 0 = λ text. IsReading grammar text a in
     (one k.text).one_reading a b (subst P same h.reading) k.reading
 
--- the file isn't too long and has no fault
-pub record IsClean (files : List FileEntry) (name : List ℕ) (kind : FileKind) : Type 0 where
-  pub text : List ℕ
-  pub there : content files name ≡ Some text
-  pub short : length text ≤ most_bytes
-  pub clean : (fault : TextFault) → IsFaultOf kind text fault → ⊥
+-- a text that reads as records has no fault
+pub clean_text : OneAnswer → (kind : FileKind) (text : List ℕ) → IsReadable kind text → (fault : TextFault) → IsFaultOf kind text fault → ⊥
+clean_text one Aux text read fault bad = (one.aux text).not_both read.0 fault read.1 bad
+clean_text one Nodes text read fault bad = (one.nodes text).not_both read.0 fault read.1 bad
+clean_text one Nets text read fault bad = (one.nets text).not_both read.0 fault read.1 bad
+clean_text one Wts text read fault bad = (one.wts text).not_both read.0 fault read.1 bad
+clean_text one Pl text read fault bad = (one.pl text).not_both read.0 fault read.1 bad
+clean_text one Scl text read fault bad = (one.scl text).not_both read.0 fault read.1 bad
 
 -- the file is too long or has a fault
 pub record IsUnclean (files : List FileEntry) (name : List ℕ) (kind : FileKind) : Type 0 where
@@ -59,86 +60,92 @@ pub record IsUnclean (files : List FileEntry) (name : List ℕ) (kind : FileKind
   pub there : content files name ≡ Some text
   pub unclean : length text ≤ most_bytes → (fault : TextFault) × IsFaultOf kind text fault
 
-not_both : (files : List FileEntry) (name : List ℕ) (kind : FileKind) → IsClean files name kind → IsUnclean files name kind → ⊥
-not_both files name kind h k =
+not_both : OneAnswer → (files : List FileEntry) (name : List ℕ) (kind : FileKind) → IsAccepted files name kind → IsUnclean files name kind → ⊥
+not_both one files name kind h k =
     let same : h.text ≡ k.text = one_text _ _ (sym h.there ∙ k.there) in
     let S : List ℕ → Type 0 = λ text. length text ≤ most_bytes in
-    let C : List ℕ → Type 0 = λ text. (fault : TextFault) → IsFaultOf kind text fault → ⊥ in
+    let R : List ℕ → Type 0 = λ text. IsReadable kind text in
     let found = k.unclean (subst S same h.short) in
-    (subst C same h.clean) found.0 found.1
+    clean_text one kind k.text (subst R same h.readable) found.0 found.1
 
-weights_clean : OneAnswer → (files : List FileEntry) (word name : List ℕ) (wts : Option (List ℕ)) (weights : Option (List WeightEntry))
-    → ReadsWeights files word wts weights → option_map (beside word) wts ≡ Some name → IsClean files name Wts
-weights_clean one files word name None weights h e = absurd (let x : ⊥ = cc in x)
-weights_clean one files word name (Some given) None h e = absurd h
-weights_clean one files word name (Some given) (Some weights) h e =
+weights_accepted : (files : List FileEntry) (word name : List ℕ) (wts : Option (List ℕ)) (weights : Option (List WeightEntry))
+    → ReadsWeights files word wts weights → option_map (beside word) wts ≡ Some name → IsAccepted files name Wts
+weights_accepted files word name None weights h e = absurd (let x : ⊥ = cc in x)
+weights_accepted files word name (Some given) None h e = absurd h
+weights_accepted files word name (Some given) (Some weights) h e =
     let same : beside word given ≡ name = one_text _ _ e in
-    let P : List ℕ → Type 0 = λ n. IsClean files n Wts in
-    subst P same (record { text = h.text; there = h.there; short = h.short; clean = λ fault bad. (one.wts h.text).not_both weights fault h.reading bad })
+    let P : List ℕ → Type 0 = λ n. IsAccepted files n Wts in
+    subst P same (record { text = h.text; there = h.there; short = h.short; readable = (weights, h.reading) })
 
-accepted_clean : OneAnswer → (files : List FileEntry) (word : List ℕ) (names : AuxEntry) (inputs : Records) (kind : FileKind) (name : List ℕ)
-    → IsAccepted files word names inputs kind → name_of word names kind ≡ Some name → IsClean files name kind
-accepted_clean one files word names inputs Aux name h e =
-    let P : List ℕ → Type 0 = λ n. IsClean files n Aux in
-    subst P (one_text _ _ e) (record { text = h.text; there = h.there; short = h.short; clean = λ fault bad. (one.aux h.text).not_both names fault h.reading bad })
-accepted_clean one files word names inputs Nodes name h e =
-    let P : List ℕ → Type 0 = λ n. IsClean files n Nodes in
-    subst P (one_text _ _ e) (record { text = h.text; there = h.there; short = h.short; clean = λ fault bad. (one.nodes h.text).not_both inputs.nodes fault h.reading bad })
-accepted_clean one files word names inputs Nets name h e =
-    let P : List ℕ → Type 0 = λ n. IsClean files n Nets in
-    subst P (one_text _ _ e) (record { text = h.text; there = h.there; short = h.short; clean = λ fault bad. (one.nets h.text).not_both inputs.nets fault h.reading bad })
-accepted_clean one files word names inputs Wts name h e = weights_clean one files word name names.wts inputs.weights h e
-accepted_clean one files word names inputs Pl name h e =
-    let P : List ℕ → Type 0 = λ n. IsClean files n Pl in
-    subst P (one_text _ _ e) (record { text = h.text; there = h.there; short = h.short; clean = λ fault bad. (one.pl h.text).not_both inputs.places fault h.reading bad })
-accepted_clean one files word names inputs Scl name h e =
-    let P : List ℕ → Type 0 = λ n. IsClean files n Scl in
-    subst P (one_text _ _ e) (record { text = h.text; there = h.there; short = h.short; clean = λ fault bad. (one.scl h.text).not_both inputs.rows fault h.reading bad })
+-- where all files are accepted, each is
+accepted_one : (files : List FileEntry) (word : List ℕ) (names : AuxEntry) (records : Records) (kind : FileKind) (name : List ℕ)
+    → Accepts files word names records → name_of word names kind ≡ Some name → IsAccepted files name kind
+accepted_one files word names records Aux name a e =
+    let h = a.aux in
+    let P : List ℕ → Type 0 = λ n. IsAccepted files n Aux in
+    subst P (one_text _ _ e) (record { text = h.text; there = h.there; short = h.short; readable = (names, h.reading) })
+accepted_one files word names records Nodes name a e =
+    let h = a.nodes in
+    let P : List ℕ → Type 0 = λ n. IsAccepted files n Nodes in
+    subst P (one_text _ _ e) (record { text = h.text; there = h.there; short = h.short; readable = (records.nodes, h.reading) })
+accepted_one files word names records Nets name a e =
+    let h = a.nets in
+    let P : List ℕ → Type 0 = λ n. IsAccepted files n Nets in
+    subst P (one_text _ _ e) (record { text = h.text; there = h.there; short = h.short; readable = (records.nets, h.reading) })
+accepted_one files word names records Wts name a e = weights_accepted files word name names.wts records.weights a.weights e
+accepted_one files word names records Pl name a e =
+    let h = a.pl in
+    let P : List ℕ → Type 0 = λ n. IsAccepted files n Pl in
+    subst P (one_text _ _ e) (record { text = h.text; there = h.there; short = h.short; readable = (records.places, h.reading) })
+accepted_one files word names records Scl name a e =
+    let h = a.scl in
+    let P : List ℕ → Type 0 = λ n. IsAccepted files n Scl in
+    subst P (one_text _ _ e) (record { text = h.text; there = h.there; short = h.short; readable = (records.rows, h.reading) })
 
--- the name of a file that is reached, by any reading of the aux file
-behind_aux : OneAnswer → (files : List FileEntry) (word : List ℕ) (kind : FileKind) (names : AuxEntry) (name : List ℕ) (place : ℕ)
-    → 0 < rank kind → IsReached files word kind name place → Reads files word aux_grammar names → name_of word names kind ≡ Some name
-behind_aux one files word kind names name place later h aux =
-    let same : h.names ≡ names = same_records aux_grammar one.aux files word h.names names (h.accepted Aux later) aux in
+-- the name of a file that is next, by any reading of the aux file
+behind_aux : OneAnswer → (files : List FileEntry) (word : List ℕ) (kind : FileKind) (names : AuxEntry) (name : List ℕ) (nth : ℕ)
+    → 0 < rank kind → IsNextFile files word kind name nth → Reads files word aux_grammar names → name_of word names kind ≡ Some name
+behind_aux one files word kind names name nth later h aux =
+    let same : h.names ≡ names = same_records aux_grammar one.aux files word h.names names (h.aux later) aux in
     let P : AuxEntry → Type 0 = λ n. name_of word n kind ≡ Some name in
     subst P same h.named
 
-same_name : OneAnswer → (files : List FileEntry) (word : List ℕ) (kind : FileKind) (names : AuxEntry) (name : List ℕ) (place : ℕ)
-    → IsReached files word kind name place → Reads files word aux_grammar names → name_of word names kind ≡ Some name
-same_name one files word Aux names name place h aux = h.named
-same_name one files word Nodes names name place h aux = behind_aux one files word Nodes names name place (lit< tt) h aux
-same_name one files word Nets names name place h aux = behind_aux one files word Nets names name place (lit< tt) h aux
-same_name one files word Wts names name place h aux = behind_aux one files word Wts names name place (lit< tt) h aux
-same_name one files word Pl names name place h aux = behind_aux one files word Pl names name place (lit< tt) h aux
-same_name one files word Scl names name place h aux = behind_aux one files word Scl names name place (lit< tt) h aux
+same_name : OneAnswer → (files : List FileEntry) (word : List ℕ) (kind : FileKind) (names : AuxEntry) (name : List ℕ) (nth : ℕ)
+    → IsNextFile files word kind name nth → Reads files word aux_grammar names → name_of word names kind ≡ Some name
+same_name one files word Aux names name nth h aux = h.named
+same_name one files word Nodes names name nth h aux = behind_aux one files word Nodes names name nth (lit< tt) h aux
+same_name one files word Nets names name nth h aux = behind_aux one files word Nets names name nth (lit< tt) h aux
+same_name one files word Wts names name nth h aux = behind_aux one files word Wts names name nth (lit< tt) h aux
+same_name one files word Pl names name nth h aux = behind_aux one files word Pl names name nth (lit< tt) h aux
+same_name one files word Scl names name nth h aux = behind_aux one files word Scl names name nth (lit< tt) h aux
 
--- two files of one kind that are reached have one name
+-- two files of one kind that are next have one name
 behind_once : OneAnswer → (files : List FileEntry) (word : List ℕ) (kind : FileKind) (a b : List ℕ) (p q : ℕ)
-    → 0 < rank kind → IsReached files word kind a p → IsReached files word kind b q → a ≡ b
+    → 0 < rank kind → IsNextFile files word kind a p → IsNextFile files word kind b q → a ≡ b
 behind_once one files word kind a b p q later h k =
-    one_text a b (sym (behind_aux one files word kind k.names a p later h (k.accepted Aux later)) ∙ k.named)
+    one_text a b (sym (behind_aux one files word kind k.names a p later h (k.aux later)) ∙ k.named)
 
-pub reached_once : OneAnswer → (files : List FileEntry) (word : List ℕ) (kind : FileKind) (a b : List ℕ) (p q : ℕ)
-    → IsReached files word kind a p → IsReached files word kind b q → a ≡ b
-reached_once one files word Aux a b p q h k = one_text a b (sym h.named ∙ k.named)
-reached_once one files word Nodes a b p q h k = behind_once one files word Nodes a b p q (lit< tt) h k
-reached_once one files word Nets a b p q h k = behind_once one files word Nets a b p q (lit< tt) h k
-reached_once one files word Wts a b p q h k = behind_once one files word Wts a b p q (lit< tt) h k
-reached_once one files word Pl a b p q h k = behind_once one files word Pl a b p q (lit< tt) h k
-reached_once one files word Scl a b p q h k = behind_once one files word Scl a b p q (lit< tt) h k
+pub next_once : OneAnswer → (files : List FileEntry) (word : List ℕ) (kind : FileKind) (a b : List ℕ) (p q : ℕ)
+    → IsNextFile files word kind a p → IsNextFile files word kind b q → a ≡ b
+next_once one files word Aux a b p q h k = one_text a b (sym h.named ∙ k.named)
+next_once one files word Nodes a b p q h k = behind_once one files word Nodes a b p q (lit< tt) h k
+next_once one files word Nets a b p q h k = behind_once one files word Nets a b p q (lit< tt) h k
+next_once one files word Wts a b p q h k = behind_once one files word Wts a b p q (lit< tt) h k
+next_once one files word Pl a b p q h k = behind_once one files word Pl a b p q (lit< tt) h k
+next_once one files word Scl a b p q h k = behind_once one files word Scl a b p q (lit< tt) h k
 
 -- the file of the kind is the first that isn't accepted
 pub record StopsAt (files : List FileEntry) (word : List ℕ) (kind : FileKind) : Type 0 where
   pub name : List ℕ
-  pub place : ℕ
-  pub reached : IsReached files word kind name place
+  pub nth : ℕ
+  pub next : IsNextFile files word kind name nth
   pub unclean : IsUnclean files name kind
 
 pub long_stops : (files : List FileEntry) (word : List ℕ) (kind : FileKind) → IsTooLong files word kind → StopsAt files word kind
 long_stops files word kind h = record {
   name = h.name;
-  place = h.place;
-  reached = h.reached;
+  nth = h.nth;
+  next = h.next;
   unclean = record { text = h.long.text; there = h.long.there; unclean = λ short. absurd (too_long most_bytes (length h.long.text) h.long.long short) };
 } where
   too_long : (limit n : ℕ) → limit < n → n ≤ limit → ⊥
@@ -147,22 +154,17 @@ long_stops files word kind h = record {
 pub bad_stops : (files : List FileEntry) (word : List ℕ) (kind : FileKind) (fault : TextFault) → IsBadText files word kind fault → StopsAt files word kind
 bad_stops files word kind fault h = record {
   name = h.name;
-  place = h.place;
-  reached = h.reached;
+  nth = h.nth;
+  next = h.next;
   unclean = record { text = h.text; there = h.there; unclean = λ short. (fault, h.faulty) };
 }
 
-no_stop : OneAnswer → (files : List FileEntry) (word : List ℕ) (kind : FileKind) (names : AuxEntry) (inputs : Records)
-    → StopsAt files word kind → Reads files word aux_grammar names → IsAccepted files word names inputs kind → ⊥
-no_stop one files word kind names inputs h aux accepted =
-    let named = same_name one files word kind names h.name h.place h.reached aux in
-    not_both files h.name kind (accepted_clean one files word names inputs kind h.name accepted named) h.unclean
-
--- a file that isn't accepted is none that stands before one that is reached
+-- a file that isn't accepted is none that stands before one that is next
 earlier : OneAnswer → (files : List FileEntry) (word : List ℕ) (a b : FileKind) → StopsAt files word a → StopsAt files word b → rank a < rank b → ⊥
 earlier one files word a b h k before =
     let first : 0 < rank b = omega arith in
-    no_stop one files word a k.reached.names k.reached.inputs h (k.reached.accepted Aux first) (k.reached.accepted a before)
+    let named = same_name one files word a k.next.names h.name h.nth h.next (k.next.aux first) in
+    not_both one files h.name a (k.next.accepted a h.name before named) h.unclean
 
 kind_of : ℕ → FileKind
 kind_of zero = Aux
@@ -192,17 +194,11 @@ stops_once one files word a b h k = by_order (cases_order (rank a) (rank b)) whe
   by_order (inr (inl before)) = absurd (earlier one files word a b h k before)
   by_order (inr (inr behind)) = absurd (earlier one files word b a k h behind)
 
-pub accepts_kind : (files : List FileEntry) (word : List ℕ) (names : AuxEntry) (inputs : Records) (kind : FileKind) → Accepts files word names inputs → IsAccepted files word names inputs kind
-accepts_kind files word names inputs Aux h = h.aux
-accepts_kind files word names inputs Nodes h = h.nodes
-accepts_kind files word names inputs Nets h = h.nets
-accepts_kind files word names inputs Wts h = h.weights
-accepts_kind files word names inputs Pl h = h.pl
-accepts_kind files word names inputs Scl h = h.scl
-
 -- where all files are accepted none is the first that isn't
-pub accepts_all : OneAnswer → (files : List FileEntry) (word : List ℕ) (names : AuxEntry) (inputs : Records) (kind : FileKind) → Accepts files word names inputs → StopsAt files word kind → ⊥
-accepts_all one files word names inputs kind h k = no_stop one files word kind names inputs k h.aux (accepts_kind files word names inputs kind h)
+pub accepts_all : OneAnswer → (files : List FileEntry) (word : List ℕ) (names : AuxEntry) (records : Records) (kind : FileKind) → Accepts files word names records → StopsAt files word kind → ⊥
+accepts_all one files word names records kind h k =
+    let named = same_name one files word kind names k.name k.nth k.next h.aux in
+    not_both one files k.name kind (accepted_one files word names records kind k.name h named) k.unclean
 
 weights_once : OneAnswer → (files : List FileEntry) (word : List ℕ) (wts : Option (List ℕ)) (a b : Option (List WeightEntry)) → ReadsWeights files word wts a → ReadsWeights files word wts b → a ≡ b
 weights_once one files word None None None h k = refl

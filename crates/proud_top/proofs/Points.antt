@@ -15,9 +15,11 @@ use Rattle.net_model.specs.declared.fault.NetFault.TheVariants.{Heavy}
 use Rattle.net_model.specs.Network.{IsNetwork, IsFirstFault, point_nodes, point_value}
 use Rattle.core_system.specs.declared.axis.Axis.{Axis}
 use Rattle.core_system.specs.CoreSystem.{point_of}
-use Rattle.proud_top.specs.Report.{Solve, IsOver, names_of}
-use Rattle.proud_top.specs.Stops.{IsSolveOf}
-use Rattle.proud_top.specs.Steps.{IsFirstLoose}
+use Rattle.pad_reach.specs.Reaches.{IsFirstUnanchored}
+use Rattle.net_model.specs.Webs.{joints_of}
+use Rattle.proud_top.specs.Report.{names_of}
+use Rattle.proud_top.specs.Solve.{SolveValue, IsSolveOf}
+use Rattle.proud_top.specs.Forms.Over.{IsOver}
 
 -- what stands past the end
 abbrev no_node : NodeValue
@@ -71,8 +73,8 @@ names_counted nodes = is_count_by (λ rest. length (names_of rest)) is_movable r
   by_test node rest true e = rw e refl
   by_test node rest false e = rw e (let same : suc (length (names_of rest)) ≡ 1 + length (names_of rest) = omega arith in same)
 
--- the solution of the network's system on an axis has an entry for each name
-pub solve_over : (axis : Axis) (design : DesignValue) (network : NetworkValue) (solve : Solve) → IsNetwork design network → IsSolveOf axis network solve → IsOver (length (names_of design.nodes)) solve
+-- the solve of the network's system on an axis has an entry for each name
+pub solve_over : (axis : Axis) (design : DesignValue) (network : NetworkValue) (solve : SolveValue) → IsNetwork design network → IsSolveOf axis network solve → IsOver (length (names_of design.nodes)) solve
 solve_over axis design network solve made h =
     let points = length-map network.points (point_of axis network.core) ∙ network_counted design network made ∙ sym (names_counted design.nodes) in
     record { lo = h.least.in_boxes.all ∙ points; hi = h.greatest.in_boxes.all ∙ points }
@@ -81,7 +83,7 @@ solve_over axis design network solve made h =
 pub heavy_there : (design : DesignValue) (point : ℕ) → IsFirstFault design (Heavy point) → point < count_by is_movable design.nodes
 heavy_there design point h = rw points_counted at h.2.here.0
 
-pub loose_there : (design : DesignValue) (point : ℕ) → IsFirstLoose design point → point < count_by is_movable design.nodes
-loose_there design point h =
-    let there = rw length-map at h.first.there in
-    rw (network_counted design h.network h.made) at there
+pub loose_there : (design : DesignValue) (network : NetworkValue) (point : ℕ) → IsNetwork design network → IsFirstUnanchored (joints_of network) point → point < count_by is_movable design.nodes
+loose_there design network point made first =
+    let there = rw length-map at first.there in
+    rw (network_counted design network made) at there

@@ -1,28 +1,40 @@
 -- From what is due, and what the put of it answered, to what the status says; and what that leaves possible.
-use Rattle.std.proofs.Common.{◌≡◌, ◌⊎◌, ◌++◌, ◌∷◌, ℕ, List, [], take, refl, sym, ◌∙◌, ap, subst, inl, inr}
+use Rattle.std.proofs.Common.{◌≡◌, ◌⊎◌, ◌++◌, ◌∷◌, ◌<◌, ℕ, List, [], length, take, refl, sym, ◌∙◌, ap, subst, inl, inr}
 use Rattle.std.specs.Prelude.{Option, Some, None, IfSome, Result, Ok, Err}
 use Rattle.std.specs.Io.KnownBytes.{Appends}
 use Rattle.book_outer.specs.Cause.{Rose}
-use Rattle.book_outer.specs.Files.{FileEntry}
+use Rattle.book_outer.specs.Files.{FileEntry, content}
 use Rattle.book_outer.specs.State.{FolderState, SinkState}
 use Rattle.book_files.specs.declared.records.FileKind.{FileKind}
 use Rattle.book_files.specs.declared.records.FileKind.TheVariants.{Scl}
+use Rattle.book_files.specs.Entries.{WeightEntry}
+use Rattle.book_design.specs.declared.fault.DesignFault.{DesignFault}
+use Rattle.book_design.specs.declared.fault.DesignFault.TheVariants.{DuplicateName, UnknownName, NoPosition, NoRows, MixedRows, RowsOverlap, TallCell, Limit}
+use Rattle.book_design.specs.Faults.{IsFirstFault}
+use Rattle.book_design.specs.Answers.{IsJoined}
+use Rattle.net_model.specs.declared.fault.NetFault.{NetFault}
+use Rattle.net_model.specs.declared.fault.NetFault.TheVariants.{NetTooWide, TooManyEdges, Heavy}
+use Rattle.net_model.specs.Network.{IsFirstFault as IsFirstNetFault}
 use Rattle.book_design.specs.Records.{Records}
+use Rattle.book_design.specs.Values.{DesignValue}
 use Rattle.proud_top.specs.declared.status.Refusal.{Refusal}
 use Rattle.proud_top.specs.declared.status.Refusal.TheVariants.{TooLong, Text, Design, Net, Unanchored}
 use Rattle.proud_top.specs.declared.status.Status.{Status}
 use Rattle.proud_top.specs.declared.status.Status.TheVariants.{Done, Usage, Refused, ReadFault, WriteFault, Memory}
-use Rattle.proud_top.specs.Lines.{usage_line, cannot_read_line, refusal_line}
-use Rattle.proud_top.specs.Request.{requested}
-use Rattle.proud_top.specs.Refused.{IsRefusedAs, IsNodeName}
-use Rattle.proud_top.specs.Counts.{IsFaultAt, IsLast, last_kind}
-use Rattle.proud_top.specs.Stops.{IsReportOf, IsReportText, IsSomeReport, IsStopped}
-use Rattle.proud_top.specs.Flow.{places, places_records}
-use Rattle.proud_top.specs.Statuses.{counts_of, GotFront, Got, HasReadUpTo, IsReport, IsCause, IsRefusal, IsUnread, IsMisused, IsDue, IsDone, IsUsage, IsRefused, IsReadFault, IsWriteFault, IsMemory, Says, Puts, IsPlaceable, AreReadsCalm, ArePutsCalm}
+use Rattle.proud_top.specs.declared.stop.Stop.{Stop}
+use Rattle.proud_top.specs.declared.stop.Stop.TheVariants as stop
+use Rattle.proud_top.specs.Request.{requested, beside}
+use Rattle.proud_top.specs.Accepted.{Reads, ReadsWeights, Accepts, IsFaultAt, IsLast}
+use Rattle.proud_top.specs.Flow.{places, places_records, reads, last_kind}
+use Rattle.proud_top.specs.Named.{node_of, point_of, node_of_fault, point_of_fault, IsNodeName, IsPointName, IsNameIn}
+use Rattle.proud_top.specs.Statuses.{GotFront, Got, HasReadUpTo, IsReport, IsCause, IsRefusal, IsUnread, IsMisused, IsDue, IsDone, IsUsage, IsRefused, IsReadFault, IsWriteFault, IsMemory, IsPlaceable, AreReadsCalm, ArePutsCalm}
+use Rattle.proud_top.specs.Forms.Saying.{Says, Puts}
+use Rattle.proud_top.specs.Forms.Inputs.{Texts, AreWeights, AreRecords, HoldsWeights, HasTexts, places_texts}
+use Rattle.proud_top.specs.Forms.Stops.{status_of, StopsReading, Gathers, Places, AreRecordsOf, HasNode, HasPoint, Covers, CoversStop, IsLineOf, Refuses}
 use Rattle.proud_top.proofs.Once.{OneAnswer}
-use Rattle.proud_top.proofs.Clash.{placed_or_refused}
-use Rattle.proud_top.proofs.FromSays.{cause_known}
-use Rattle.proud_top.proofs.OneEnd.{one_end}
+use Rattle.proud_top.proofs.OneEnd.{one_end, never_refused}
+use Rattle.proud_top.proofs.Naming.{named_among}
+use Rattle.proud_top.proofs.Points.{heavy_there, loose_there}
 
 -- the status under which a put that failed ends
 abbrev pub failed_of : Status → Status
@@ -37,9 +49,9 @@ whole : (words : List (List ℕ)) (f f' : FolderState) (s s' : SinkState) (statu
     → Appends s.written s'.written text → s'.faults ≡ s.faults → Says status words f f' s s'
 whole words f f' s s' Done text due other got calm = record { text = text; due = due; got = got; puts = calm }
 whole words f f' s s' WriteFault text due other got calm = absurd (other refl)
-whole words f f' s s' Usage text due other got calm = record { line = text; due = due; got = inl got }
-whole words f f' s s' (Refused refusal) text due other got calm = record { line = text; due = due; got = inl got }
-whole words f f' s s' (ReadFault kind) text due other got calm = record { line = text; due = due; got = inl got }
+whole words f f' s s' Usage text due other got calm = record { line = text; due = due; got = inl (got, calm) }
+whole words f f' s s' (Refused refusal) text due other got calm = record { line = text; due = due; got = inl (got, calm) }
+whole words f f' s s' (ReadFault kind) text due other got calm = record { line = text; due = due; got = inl (got, calm) }
 whole words f f' s s' Memory text due other got calm = absurd due
 
 part : (words : List (List ℕ)) (f f' : FolderState) (s s' : SinkState) (status : Status) (text : List ℕ) → IsDue status words f f' text
@@ -62,50 +74,112 @@ says words f f' s s' status result text due other (inr (inl put)) =
     subst P (sym put.0) (part words f f' s s' status text due put.1 put.2)
 says words f f' s s' status result text due other (inr (inr put)) =
     let P : Status → Type 0 = λ x. Says x words f f' s s' in
-    subst P (sym put.0) (inr (status, text, due, put.1))
+    subst P (sym put.0) (record { got = inr (status, text, due, put.1); puts = put.2 })
 
--- what the run up to the report gave, as what is due
-flow_of_records : (records : Records) (text : List ℕ) → IsReportText records text → places_records records (Ok text)
-flow_of_records records text h =
-    let d = h.reported in
-    (h.design, h.joined, (d.network, d.made, (tt, d.chains, (record { x = d.x; y = d.y }, record { x = d.x_solved; y = d.y_solved }, d.told))))
+-- the texts of the files, read as records, are accepted files
+weights_read : (files : List FileEntry) (word : List ℕ) (wts text : Option (List ℕ)) (weights : Option (List WeightEntry)) → HoldsWeights files word wts text → AreWeights text weights → ReadsWeights files word wts weights
+weights_read files word None None None h k = tt
+weights_read files word None None (Some weights) h k = absurd k
+weights_read files word None (Some text) weights h k = absurd h
+weights_read files word (Some name) None weights h k = absurd h
+weights_read files word (Some name) (Some text) None h k = absurd k
+weights_read files word (Some name) (Some text) (Some weights) h k = record { text = text; there = h.there; short = h.short; reading = k }
 
-report_flow : (o : Option (List FileEntry)) (word text : List ℕ) → IfSome o (λ files. IsReportOf files word text) → IsSomeReport text → places o word (Ok text)
-report_flow None word text h some = (some.inputs, tt, flow_of_records some.inputs text some.reported)
-report_flow (Some files) word text h some = (h.inputs, (h.names, h.accepted), flow_of_records h.inputs text h.reported)
-
-pub due_report : (words : List (List ℕ)) (word text : List ℕ) (f f' : FolderState) → requested words ≡ Some word → IfSome f.files (λ files. IsReportOf files word text)
-    → f'.read_faults ≡ f.read_faults → IfSome f.files (λ files. IsLast files word Scl (counts_of f) (counts_of f')) → IsSomeReport text → IsReport words f f' text
-due_report words word text f f' asked known calm last some = record { word = word; asked = asked; flow = report_flow f.files word text known some; read = record { begun = last; reads = calm } }
-
-refused_known : (files : List FileEntry) (word : List ℕ) (refusal : Refusal) → IsRefusedAs files word refusal → places (Some files) word (Err refusal)
-refused_known files word (TooLong kind) h = inl h
-refused_known files word (Text kind fault) h = inl h
-refused_known files word (Design fault) h = inr (h.inputs, (h.names, h.accepted), inl (fault, refl, h.faulty))
-refused_known files word (Net fault) h = inr (h.inputs, (h.names, h.accepted), inr (h.design, h.joined, inl (fault, refl, h.faulty)))
-refused_known files word (Unanchored point) h = inr (h.inputs, (h.names, h.accepted), inr (h.design, h.joined, inr (h.network, h.made, inl (point, refl, h.first))))
-
-refusal_flow : (o : Option (List FileEntry)) (word name : List ℕ) (refusal : Refusal) → IfSome o (λ files. IsStopped files word refusal name) → places o word (Err refusal)
-refusal_flow None word name refusal h = inl tt
-refusal_flow (Some files) word name refusal h = refused_known files word refusal h.cause
-
-stopped_name : (o : Option (List FileEntry)) (word name : List ℕ) (refusal : Refusal) → IfSome o (λ files. IsStopped files word refusal name) → IfSome o (λ files. IsNodeName files word refusal name)
-stopped_name None word name refusal h = tt
-stopped_name (Some files) word name refusal h = h.named
-
-pub due_refusal : (words : List (List ℕ)) (word name : List ℕ) (refusal : Refusal) (f f' : FolderState) → requested words ≡ Some word → IfSome f.files (λ files. IsStopped files word refusal name)
-    → f'.read_faults ≡ f.read_faults → IfSome f.files (λ files. IsLast files word (last_kind refusal) (counts_of f) (counts_of f')) → IsRefusal words f f' refusal (refusal_line refusal name)
-due_refusal words word name refusal f f' asked known calm last = record {
-  cause = record { word = word; asked = asked; flow = refusal_flow f.files word name refusal known };
-  read = record { begun = last; reads = calm };
-  name = name;
-  named = stopped_name f.files word name refusal known;
-  line = refl;
+accepts_texts : (files : List FileEntry) (word : List ℕ) (texts : Texts) (records : Records) (h : HasTexts files word texts) → AreRecords texts records → Accepts files word h.names records
+accepts_texts files word texts records h k = record {
+  aux = record { text = texts.aux; there = h.aux.there; short = h.aux.short; reading = h.named };
+  nodes = record { text = texts.nodes; there = h.nodes.there; short = h.nodes.short; reading = k.nodes };
+  nets = record { text = texts.nets; there = h.nets.there; short = h.nets.short; reading = k.nets };
+  weights = weights_read files word h.names.wts texts.wts records.weights h.wts k.weights;
+  pl = record { text = texts.pl; there = h.pl.there; short = h.pl.short; reading = k.places };
+  scl = record { text = texts.scl; there = h.scl.there; short = h.scl.short; reading = k.rows };
 }
 
-pub due_fault : (words : List (List ℕ)) (word : List ℕ) (kind : FileKind) (f f' : FolderState) → requested words ≡ Some word → IfSome f.files (λ files. IsFaultAt files word kind (counts_of f) (counts_of f'))
-    → Rose f.read_faults f'.read_faults → IsUnread words f f' kind (cannot_read_line kind)
-due_fault words word kind f f' asked place rose = record { word = word; asked = asked; rose = rose; place = place; line = refl }
+reads_texts : (o : Option (List FileEntry)) (word : List ℕ) (texts : Texts) (records : Records) → IfSome o (λ files. HasTexts files word texts) → AreRecords texts records → reads o word (Ok records)
+reads_texts None word texts records h k = tt
+reads_texts (Some files) word texts records h k = (h.names, accepts_texts files word texts records h k)
+
+-- the flow from the texts on is that from the files on
+flow_texts : (o : Option (List FileEntry)) (word : List ℕ) (texts : Texts) (end : Result (List ℕ) Refusal) → IfSome o (λ files. HasTexts files word texts) → places_texts texts end → places o word end
+flow_texts o word texts (Ok text) h flow = (flow.0, reads_texts o word texts flow.0 h flow.1, flow.2)
+flow_texts o word texts (Err refusal) h (inl none) = absurd none
+flow_texts o word texts (Err refusal) h (inr (records, read, rest)) = inr (records, reads_texts o word texts records h read, rest)
+
+-- a refusal behind the texts comes when all files were begun, and names nothing that isn't theirs
+fault_covered : (texts : Texts) (records : Records) (fault : DesignFault) → AreRecords texts records → IsFirstFault records fault → IfSome (node_of_fault fault) (HasNode texts)
+fault_covered texts records (NoPosition node) read first = record { records = records; read = read; there = first.holds.here.there }
+fault_covered texts records (TallCell node) read first = record { records = records; read = read; there = first.holds.here.there }
+fault_covered texts records (DuplicateName line) read first = tt
+fault_covered texts records (UnknownName file line) read first = tt
+fault_covered texts records NoRows read first = tt
+fault_covered texts records (MixedRows row) read first = tt
+fault_covered texts records (RowsOverlap row) read first = tt
+fault_covered texts records (Limit kind number) read first = tt
+
+net_covered : (texts : Texts) (records : Records) (design : DesignValue) (fault : NetFault) → AreRecords texts records → IsJoined records design → IsFirstNetFault design fault → IfSome (point_of_fault fault) (HasPoint texts)
+net_covered texts records design (Heavy point) read joined first = record { records = records; design = design; read = read; joined = joined; there = heavy_there design point first }
+net_covered texts records design (NetTooWide number) read joined first = tt
+net_covered texts records design (TooManyEdges number) read joined first = tt
+
+record Late (texts : Texts) (refusal : Refusal) : Type 0 where
+  pub last : last_kind refusal ≡ Scl
+  pub covered : Covers (Some texts) refusal
+
+late_as : (texts : Texts) (refusal other : Refusal) → refusal ≡ other → Late texts other → Late texts refusal
+late_as texts refusal other e h =
+    let P : Refusal → Type 0 = λ r. Late texts r in
+    subst P (sym e) h
+
+late : (texts : Texts) (refusal : Refusal) → places_texts texts (Err refusal) → Late texts refusal
+late texts refusal (inl none) = absurd none
+late texts refusal (inr (records, read, inl (fault, e, first))) = late_as texts refusal (Design fault) e (record { last = refl; covered = (fault_covered texts records fault read first, tt) })
+late texts refusal (inr (records, read, inr (design, joined, inl (fault, e, first)))) =
+    late_as texts refusal (Net fault) e (record { last = refl; covered = (tt, net_covered texts records design fault read joined first) })
+late texts refusal (inr (records, read, inr (design, joined, inr (network, made, inl (point, e, first))))) =
+    late_as texts refusal (Unanchored point) e (record { last = refl; covered = (tt, record { records = records; design = design; read = read; joined = joined; there = loose_there design network point made first }) })
+late texts refusal (inr (records, read, inr (design, joined, inr (network, made, inr (done, chains, inl none))))) = absurd none
+late texts refusal (inr (records, read, inr (design, joined, inr (network, made, inr (done, chains, inr (solved, is, none)))))) = absurd none
+
+pub covered_gather : (f f' : FolderState) (word : List ℕ) (s : Stop) → StopsReading f f' word s → CoversStop None s
+covered_gather f f' word (stop.Refused refusal) h = h.3
+covered_gather f f' word (stop.ReadFault kind) h = tt
+covered_gather f f' word stop.Memory h = tt
+
+pub covered_place : (texts : Texts) (s : Stop) → Places texts (Err s) → CoversStop (Some texts) s
+covered_place texts (stop.Refused refusal) h = (late texts refusal h).covered
+covered_place texts (stop.ReadFault kind) h = tt
+covered_place texts stop.Memory h = tt
+
+-- what is due where the reading of the files stopped
+pub due_gather : (words : List (List ℕ)) (word : List ℕ) (f f' : FolderState) → requested words ≡ Some word → (s : Stop) → StopsReading f f' word s
+    → (line : List ℕ) → IsLineOf None s line → (s ≡ stop.Memory → ⊥) → IsDue (status_of s) words f f' line
+due_gather words word f f' asked (stop.Refused refusal) h line is other = record {
+  cause = record { word = word; asked = asked; flow = inl h.1 };
+  read = h.2;
+  name = is.0;
+  named = named_among refusal is.0 (λ records none. absurd none) is.1;
+  line = is.2;
+}
+due_gather words word f f' asked (stop.ReadFault kind) h line is other = record { word = word; asked = asked; rose = h.1; at = h.2; line = is }
+due_gather words word f f' asked stop.Memory h line is other = absurd (other refl)
+
+-- and where what the texts make is refused
+pub due_place : (words : List (List ℕ)) (word : List ℕ) (f f' : FolderState) (texts : Texts) → requested words ≡ Some word → Gathers f f' word (Ok texts) → (s : Stop) → Places texts (Err s)
+    → (line : List ℕ) → IsLineOf (Some texts) s line → (s ≡ stop.Memory → ⊥) → IsDue (status_of s) words f f' line
+due_place words word f f' texts asked g (stop.Refused refusal) h line is other =
+    let R : FileKind → Type 0 = λ kind. HasReadUpTo kind word f f' in
+    record {
+      cause = record { word = word; asked = asked; flow = flow_texts f.files word texts (Err refusal) g.1 h };
+      read = subst R (sym (late texts refusal h).last) g.2;
+      name = is.0;
+      named = named_among refusal is.0 (λ records read. reads_texts f.files word texts records g.1 read) is.1;
+      line = is.2;
+    }
+due_place words word f f' texts asked g (stop.ReadFault kind) h line is other = absurd h
+due_place words word f f' texts asked g stop.Memory h line is other = absurd (other refl)
+
+pub due_report : (words : List (List ℕ)) (word : List ℕ) (f f' : FolderState) (texts : Texts) (text : List ℕ) → requested words ≡ Some word → Gathers f f' word (Ok texts) → places_texts texts (Ok text) → IsReport words f f' text
+due_report words word f f' texts text asked g flow = record { word = word; asked = asked; flow = flow_texts f.files word texts (Ok text) g.1 flow; read = g.2 }
 
 append_none : (xs : List ℕ) → xs ++ [] ≡ xs
 append_none [] = refl
@@ -114,6 +188,26 @@ append_none (x ∷ xs) = ap (λ ys. x ∷ ys) (append_none xs)
 pub nothing_put : (o : Option (List ℕ)) → Appends o o []
 nothing_put None = tt
 nothing_put (Some xs) = sym (append_none xs)
+
+-- what a stop says, once its line was put
+pub says_stop : (words : List (List ℕ)) (f f' : FolderState) (s s' : SinkState) (texts : Option Texts) (x : Stop) (result : Status)
+    → ((line : List ℕ) → IsLineOf texts x line → (x ≡ stop.Memory → ⊥) → IsDue (status_of x) words f f' line) → Refuses texts x s s' result → Says result words f f' s s'
+says_stop words f f' s s' texts x result due (inl (e, same)) =
+    let P : Status → Type 0 = λ y. Says y words f f' s s' in
+    let W : SinkState → Type 0 = λ y. Appends s.written y.written [] in
+    subst P (sym e) (record { got = inl (subst W (sym same) (nothing_put s.written)); puts = ap (λ (y : SinkState). y.faults) same })
+says_stop words f f' s s' texts x result due (inr (line, other, is, put)) =
+    let P : Status → Type 0 = λ failed. Puts line (status_of x) failed s s' result in
+    says words f f' s s' (status_of x) result line (due line is other) (no_write x) (subst P (sym (same_failed x)) put) where
+      same_failed : (y : Stop) → failed_of (status_of y) ≡ status_of y
+      same_failed (stop.Refused refusal) = refl
+      same_failed (stop.ReadFault kind) = refl
+      same_failed stop.Memory = refl
+
+      no_write : (y : Stop) → status_of y ≡ WriteFault → ⊥
+      no_write (stop.Refused refusal) e = cc
+      no_write (stop.ReadFault kind) e = cc
+      no_write stop.Memory e = cc
 
 -- the flow of the one word that the words ask for
 one_word : (a b : List ℕ) → Some a ≡ Some b → a ≡ b
@@ -167,8 +261,8 @@ complete one files words f f' s s' status is given calm quiet said = by_status s
   no_refusal : (refusal : Refusal) (word : List ℕ) → requested words ≡ Some word → places f.files word (Err refusal) → ⊥
   no_refusal refusal word asked flow =
       let P : Option (List FileEntry) → Type 0 = λ o. places o word (Err refusal) in
-      let known = cause_known files given.word refusal (same_flow words (Some files) word given.word (Err refusal) asked given.asked (subst P is flow)) in
-      placed_or_refused one files given.word given.names given.records given.design given.network refusal given.accepted given.joined given.wired given.chains known
+      never_refused one files given.word given.names given.records given.design given.network refusal given.accepted given.joined given.wired given.chains
+      (same_flow words (Some files) word given.word (Err refusal) asked given.asked (subst P is flow))
 
   by_status : (x : Status) → Says x words f f' s s' → (x ≡ Done) ⊎ (x ≡ Memory)
   by_status Done h = inl refl

@@ -1,6 +1,8 @@
 -- The flow as a list of steps: each goes on with what it makes, or stops at a refusal.
 use Rattle.std.specs.Prelude.{◌≡◌, ◌⊎◌, ℕ, ◌<◌, List, length, Option, Some, None, Result, Ok, Err}
 use Rattle.book_outer.specs.Files.{FileEntry}
+use Rattle.book_files.specs.declared.records.FileKind.{FileKind}
+use Rattle.book_files.specs.declared.records.FileKind.TheVariants.{Scl}
 use Rattle.book_files.specs.Entries.{AuxEntry}
 use Rattle.book_design.specs.declared.fault.DesignFault.{DesignFault}
 use Rattle.book_design.specs.Records.{Records}
@@ -13,13 +15,11 @@ use Rattle.net_model.specs.declared.fault.NetFault.{NetFault}
 use Rattle.net_model.specs.Values.{NetworkValue}
 use Rattle.net_model.specs.Network.{IsNetwork, IsFirstFault as IsFirstNetFault}
 use Rattle.net_model.specs.Webs.{joints_of}
-use Rattle.core_system.specs.declared.axis.Axis.TheVariants.{X, Y}
 use Rattle.proud_top.specs.declared.status.Refusal.{Refusal}
 use Rattle.proud_top.specs.declared.status.Refusal.TheVariants.{TooLong, Text, Design, Net, Unanchored}
-use Rattle.proud_top.specs.Accepted.{Accepts}
-use Rattle.proud_top.specs.Refused.{IsTooLong, IsBadText}
-use Rattle.proud_top.specs.Report.{Solve, report_of}
-use Rattle.proud_top.specs.Stops.{IsSolveOf}
+use Rattle.proud_top.specs.Accepted.{Accepts, IsTooLong, IsBadText}
+use Rattle.proud_top.specs.Solve.{SolvedValue, IsSolved}
+use Rattle.proud_top.specs.Report.{report_of}
 
 -- one step behind another, which goes on with what the first makes
 infixl 10 ◌then◌
@@ -36,7 +36,7 @@ reads_known files word (Err (Design fault)) = ⊥
 reads_known files word (Err (Net fault)) = ⊥
 reads_known files word (Err (Unanchored point)) = ⊥
 
--- the same of a folder whose files may be unknown: then nothing is said of them
+-- The same of a folder whose files may be unknown: of those nothing is said, here and nowhere else.
 abbrev pub reads : Option (List FileEntry) → List ℕ → Result Records Refusal → Type 0
 reads None word result = Unit {0}
 reads (Some files) word result = reads_known files word result
@@ -57,29 +57,26 @@ reaches network (Ok done) = (p : ℕ) → p < length network.points → HasChain
 reaches network (Err refusal) = (point : ℕ) × (refusal ≡ Unanchored point) × IsFirstUnanchored (joints_of network) point
 
 -- the least and the greatest vector on each axis
-pub record Solved : Type 0 where
-  pub x : Solve
-  pub y : Solve
-
-pub record IsSolved (network : NetworkValue) (solved : Solved) : Type 0 where
-  pub x : IsSolveOf X network solved.x
-  pub y : IsSolveOf Y network solved.y
-
-abbrev pub solves : NetworkValue → Result Solved Refusal → Type 0
+abbrev pub solves : NetworkValue → Result SolvedValue Refusal → Type 0
 solves network (Ok solved) = IsSolved network solved
 solves network (Err refusal) = ⊥
 
-abbrev pub reports : DesignValue → Solved → Result (List ℕ) Refusal → Type 0
+abbrev pub reports : DesignValue → SolvedValue → Result (List ℕ) Refusal → Type 0
 reports design solved (Ok text) = text ≡ report_of design solved.x solved.y
 reports design solved (Err refusal) = ⊥
 
--- the steps behind the join
-abbrev pub places_design : DesignValue → Result (List ℕ) Refusal → Type 0
-places_design design = wires design then λ network. reaches network then λ done. solves network then λ solved. reports design solved
-
+-- the steps from the records on
 abbrev pub places_records : Records → Result (List ℕ) Refusal → Type 0
-places_records records = joins records then places_design
+places_records records = joins records then λ design. wires design then λ network. reaches network then λ done. solves network then λ solved. reports design solved
 
 -- The whole flow: the report of what the design's files make, or the refusal at the first step that stops.
 abbrev pub places : Option (List FileEntry) → List ℕ → Result (List ℕ) Refusal → Type 0
-places files word = reads files word then λ records. joins records then λ design. wires design then λ network. reaches network then λ done. solves network then λ solved. reports design solved
+places files word = reads files word then places_records
+
+-- the last file that is begun before a refusal
+abbrev pub last_kind : Refusal → FileKind
+last_kind (TooLong kind) = kind
+last_kind (Text kind fault) = kind
+last_kind (Design fault) = Scl
+last_kind (Net fault) = Scl
+last_kind (Unanchored point) = Scl

@@ -28,11 +28,11 @@ abbrev pub weight_files : Option (List ℕ) → ℕ
 weight_files None = 0
 weight_files (Some name) = 1
 
--- the place of the file of the kind among the files that are read, counted from 1
-abbrev pub place_of : AuxEntry → FileKind → ℕ
-place_of names Aux = 1
-place_of names Nodes = 2
-place_of names Nets = 3
-place_of names Wts = 4
-place_of names Pl = 4 + weight_files names.wts
-place_of names Scl = 5 + weight_files names.wts
+-- the how manieth the file of the kind is among those that are read, counted from 1
+abbrev pub nth_of : AuxEntry → FileKind → ℕ
+nth_of names Aux = 1
+nth_of names Nodes = 2
+nth_of names Nets = 3
+nth_of names Wts = 4
+nth_of names Pl = 4 + weight_files names.wts
+nth_of names Scl = 5 + weight_files names.wts

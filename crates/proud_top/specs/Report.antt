@@ -1,16 +1,7 @@
 -- The report: for each point its name, and its lower and upper coordinate on each axis.
-use Rattle.std.specs.Prelude.{◌≡◌, ℕ, ◌+◌, ◌-◌, List, [], ◌∷◌, ◌++◌, length, decimal, nat_lt, slice_index, if◌then◌else◌}
+use Rattle.std.specs.Prelude.{ℕ, ◌+◌, ◌-◌, List, [], ◌∷◌, ◌++◌, decimal, nat_lt, slice_index, if◌then◌else◌}
 use Rattle.book_design.specs.Values.{NodeValue, DesignValue}
-
--- the lower and the upper coordinates of the points on an axis
-pub record Solve : Type 0 where
-  pub lo : List ℕ
-  pub hi : List ℕ
-
--- both sides have an entry for each of so many points
-pub record IsOver (points : ℕ) (solve : Solve) : Type 0 where
-  pub lo : length solve.lo ≡ points
-  pub hi : length solve.hi ≡ points
+use Rattle.proud_top.specs.Solve.{SolveValue}
 
 -- a coordinate as a signed decimal of millionths
 abbrev pub signed_text : ℕ → List ℕ
@@ -25,7 +16,7 @@ abbrev pub report_line : List ℕ → ℕ → ℕ → ℕ → ℕ → List ℕ
 report_line name xlo xhi ylo yhi = name ++ (ends_text xlo xhi ++ (ends_text ylo yhi ++ 10 ∷ []))
 
 -- a line for each of these names, which are those of the points from this one on
-abbrev pub report_from : ℕ → List (List ℕ) → Solve → Solve → List ℕ
+abbrev pub report_from : ℕ → List (List ℕ) → SolveValue → SolveValue → List ℕ
 report_from point [] x y = []
 report_from point (name ∷ names) x y = report_line name (slice_index x.lo point) (slice_index x.hi point) (slice_index y.lo point) (slice_index y.hi point)
     ++ report_from (point + 1) names x y
@@ -35,5 +26,5 @@ abbrev pub names_of : List NodeValue → List (List ℕ)
 names_of [] = []
 names_of (node ∷ nodes) = if node.fixed then names_of nodes else node.name ∷ names_of nodes
 
-abbrev pub report_of : DesignValue → Solve → Solve → List ℕ
+abbrev pub report_of : DesignValue → SolveValue → SolveValue → List ℕ
 report_of design x y = report_from 0 (names_of design.nodes) x y

@@ -1,21 +1,18 @@
 -- What the words of a command line ask for, and where the files of a design stand.
-use Rattle.std.specs.Prelude.{◌≡◌, ℕ, ◌-◌, ◌≤◌, ◌==◌, ◌&&◌, Bool, not, List, [], ◌∷◌, ◌++◌, length, take, codes, bytes_eq, nat_le, if◌then◌else◌, Option, Some, None, option_map, unwrap_or, Result, Ok, Err}
+use Rattle.std.specs.Prelude.{ℕ, ◌-◌, ◌==◌, ◌&&◌, Bool, not, List, [], ◌∷◌, ◌++◌, length, take, codes, bytes_eq, nat_le, if◌then◌else◌, Option, Some, None, option_map, Result, Ok, Err}
 use Rattle.std.specs.List.{suffix_len}
+use Rattle.relax_crew.specs.declared.range.TheConstants.{MOST_SEATS}
 use Rattle.book_text.specs.declared.number.NumberFault.{NumberFault}
 use Rattle.book_text.specs.Whole.{whole_value}
 
--- a number of seats that may be asked for
+-- a number of seats that may be asked for, from 1 to 64
 abbrev pub as_seats : Result ℕ NumberFault → Option ℕ
-as_seats (Ok seats) = if nat_le 1 seats && nat_le seats 64 then Some seats else None
+as_seats (Ok seats) = if nat_le 1 seats && nat_le seats MOST_SEATS then Some seats else None
 as_seats (Err fault) = None
 
 -- the number of seats that a word asks for: a whole word from 1 to 64
 abbrev pub seats_in : List ℕ → Option ℕ
 seats_in word = as_seats (whole_value word)
-
--- how many seats solve a system where the words don't say
-abbrev pub usual_seats : ℕ
-usual_seats = 4
 
 -- the number of seats that an option asks for
 abbrev pub seats_by : List ℕ → List ℕ → Option ℕ
@@ -29,21 +26,6 @@ requested [] = None
 requested (program ∷ []) = None
 requested (program ∷ option ∷ number ∷ []) = None
 requested (program ∷ option ∷ number ∷ design ∷ more ∷ rest) = None
-
--- how many seats the words ask for
-abbrev pub seats_of : List (List ℕ) → ℕ
-seats_of (program ∷ option ∷ number ∷ design ∷ rest) = unwrap_or (seats_by option number) usual_seats
-seats_of (program ∷ option ∷ number ∷ []) = usual_seats
-seats_of (program ∷ design ∷ []) = usual_seats
-seats_of (program ∷ []) = usual_seats
-seats_of [] = usual_seats
-
--- The words ask for the design and for so many seats, from 1 to 64.
-pub record IsRequest (words : List (List ℕ)) (design : List ℕ) (seats : ℕ) : Type 0 where
-  pub asked : requested words ≡ Some design
-  pub told : seats ≡ seats_of words
-  pub some : 1 ≤ seats
-  pub few : seats ≤ 64
 
 abbrev pub is_no_slash : ℕ → Bool
 is_no_slash b = not (b == 47)

@@ -19,17 +19,13 @@ use Rattle.proud_top.specs.declared.status.Status.{Status}
 use Rattle.proud_top.specs.declared.status.Status.TheVariants.{Done, Usage, Refused, ReadFault, WriteFault, Memory}
 use Rattle.proud_top.specs.Lines.{usage_line, cannot_read_line, refusal_line}
 use Rattle.proud_top.specs.Request.{requested}
-use Rattle.proud_top.specs.Accepted.{Accepts}
-use Rattle.proud_top.specs.Refused.{IsNodeName}
-use Rattle.proud_top.specs.Counts.{Counts, IsFaultAt, IsLast, last_kind}
-use Rattle.proud_top.specs.Flow.{places}
-
-abbrev pub counts_of : FolderState → Counts
-counts_of folder = record { begun = folder.begun; missed = folder.missed; faults = folder.read_faults }
+use Rattle.proud_top.specs.Accepted.{Accepts, IsFaultAt, IsLast}
+use Rattle.proud_top.specs.Flow.{reads, places, last_kind}
+use Rattle.proud_top.specs.Named.{IsNameIn}
 
 -- Up to the file of the kind all were begun and none was absent, where the files are known; and no read fault was counted.
 pub record HasReadUpTo (kind : FileKind) (word : List ℕ) (old new : FolderState) : Type 0 where
-  pub begun : IfSome old.files (λ files. IsLast files word kind (counts_of old) (counts_of new))
+  pub begun : IfSome old.files (λ files. IsLast files word kind old new)
   pub reads : new.read_faults ≡ old.read_faults
 
 -- The words ask for a design, of which the text is the report.
@@ -50,7 +46,7 @@ pub record IsRefusal (words : List (List ℕ)) (old new : FolderState) (refusal 
   pub cause : IsCause words old.files refusal
   pub read : HasReadUpTo (last_kind refusal) cause.word old new
   pub name : List ℕ
-  pub named : IfSome old.files (λ files. IsNodeName files cause.word refusal name)
+  pub named : IsNameIn (λ records. reads old.files cause.word (Ok records)) refusal name
   pub line : text ≡ refusal_line refusal name
 
 -- A read fault was counted at the file of the kind.
@@ -58,7 +54,7 @@ pub record IsUnread (words : List (List ℕ)) (old new : FolderState) (kind : Fi
   pub word : List ℕ
   pub asked : requested words ≡ Some word
   pub rose : Rose old.read_faults new.read_faults
-  pub place : IfSome old.files (λ files. IsFaultAt files word kind (counts_of old) (counts_of new))
+  pub at : IfSome old.files (λ files. IsFaultAt files word kind old new)
   pub line : text ≡ cannot_read_line kind
 
 -- the words have another form
@@ -79,9 +75,9 @@ IsDue Memory words old new text = ⊥
 abbrev pub GotFront : SinkState → SinkState → List ℕ → Type 0
 GotFront old new text = (n : ℕ) × Appends old.written new.written (take n text)
 
--- the sink got the text, or a front of it where the put failed
+-- The sink got the text, and no fault was counted; or it got a front of it, where the put failed.
 abbrev pub Got : SinkState → SinkState → List ℕ → Type 0
-Got old new text = Appends old.written new.written text ⊎ (Rose old.faults new.faults × GotFront old new text)
+Got old new text = (Appends old.written new.written text × (new.faults ≡ old.faults)) ⊎ (Rose old.faults new.faults × GotFront old new text)
 
 pub record IsDone (words : List (List ℕ)) (folder folder' : FolderState) (report report' : SinkState) : Type 0 where
   pub text : List ℕ
@@ -110,23 +106,11 @@ pub record IsWriteFault (words : List (List ℕ)) (folder folder' : FolderState)
   pub got : GotFront report report' text
   pub rose : Rose report.faults report'.faults
 
--- Nothing was put, or a front of what was due under another status.
-abbrev pub IsMemory : List (List ℕ) → FolderState → FolderState → SinkState → SinkState → Type 0
-IsMemory words folder folder' report report' = Appends report.written report'.written []
-    ⊎ ((status : Status) × (text : List ℕ) × IsDue status words folder folder' text × GotFront report report' text)
-
-abbrev pub Says : Status → List (List ℕ) → FolderState → FolderState → SinkState → SinkState → Type 0
-Says Done words folder folder' report report' = IsDone words folder folder' report report'
-Says Usage words folder folder' report report' = IsUsage words report report'
-Says (Refused refusal) words folder folder' report report' = IsRefused words refusal folder folder' report report'
-Says (ReadFault kind) words folder folder' report report' = IsReadFault words kind folder folder' report report'
-Says WriteFault words folder folder' report report' = IsWriteFault words folder folder' report report'
-Says Memory words folder folder' report report' = IsMemory words folder folder' report report'
-
--- What a put answers: the one status where all bytes stand, the other where it failed, and Memory where memory was wanting.
-abbrev pub Puts : List ℕ → Status → Status → SinkState → SinkState → Status → Type 0
-Puts text done failed old new result = ((result ≡ done) × Appends old.written new.written text × (new.faults ≡ old.faults))
-    ⊎ (((result ≡ failed) × Rose old.faults new.faults × GotFront old new text) ⊎ ((result ≡ Memory) × GotFront old new text))
+-- Nothing was put, or a front of what was due under another status; and no put failed.
+pub record IsMemory (words : List (List ℕ)) (folder folder' : FolderState) (report report' : SinkState) : Type 0 where
+  pub got : Appends report.written report'.written []
+      ⊎ ((status : Status) × (text : List ℕ) × IsDue status words folder folder' text × GotFront report report' text)
+  pub puts : report'.faults ≡ report.faults
 
 -- the design that the words ask for is accepted: its files have no fault, nor has what they make, and each point has a chain
 pub record IsPlaceable (words : List (List ℕ)) (files : List FileEntry) : Type 0 where

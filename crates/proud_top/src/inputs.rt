@@ -1,12 +1,19 @@
 //! The texts of a design's files.
 
-ghost use Rattle.std.specs.Prelude.{◌≡◌, IfOk, IfSome, option_map};
-ghost use Rattle.book_files.specs.WeightRules.{weights_grammar};
-ghost use Rattle.proud_top.specs.Inputs.{IsSound, IsSameRecords, IsSoundText, AreWeights};
+ghost use Rattle.std.specs.Prelude.{◌≡◌, ◌<◌, length, IfOk, IfSome, option_map};
+ghost use Rattle.std.specs.List.{count_by};
+ghost use Rattle.book_files.specs.declared.records.FileKind.TheVariants.{Wts};
+ghost use Rattle.book_files.specs.Entries.{node_entries};
+ghost use Rattle.book_design.specs.Points.{is_movable};
+ghost use Rattle.proud_top.specs.Forms.Inputs.{IsSound, IsSameRecords, IsSoundText, AreWeights, AreRecords};
+ghost use Rattle.proud_top.specs.Forms.Stops.{IsNameAt, IsPointNamed};
 
-use crate::halt::Halt;
+use crate::laws::laws;
+use crate::stop::Stop;
 use book_design::{Design, join_design};
-use book_files::{ReadError, WeightFile, read_nets, read_nodes, read_pl, read_scl, read_wts};
+use book_files::{
+    FileKind, NodeLine, ReadError, WeightFile, read_nets, read_nodes, read_pl, read_scl, read_wts,
+};
 use book_text::Memory;
 use std::alloc::Global;
 use std::marker::Model;
@@ -14,29 +21,46 @@ use std::marker::Model;
 /// The texts of a design's files, none of which is too long or has a fault.
 #[derive(Drop)]
 pub(crate) struct Inputs {
-    nodes: Vec<u8>,
-    nets: Vec<u8>,
-    wts: Option<Vec<u8>>,
-    pl: Vec<u8>,
-    scl: Vec<u8>,
+    pub(crate) aux: Vec<u8>,
+    pub(crate) nodes: Vec<u8>,
+    pub(crate) nets: Vec<u8>,
+    pub(crate) wts: Option<Vec<u8>>,
+    pub(crate) pl: Vec<u8>,
+    pub(crate) scl: Vec<u8>,
 }
 
 impl Model for Inputs {
     ghost use Rattle.std.specs.Prelude.{option_map};
-    ghost use Rattle.proud_top.specs.Inputs.{Texts, AreSound};
+    ghost use Rattle.proud_top.specs.Forms.Inputs.{Texts, AreSound};
 
     ghost Value = { Texts };
 
-    ghost view = { λ i. record { nodes = i.nodes.items; nets = i.nets.items; wts = option_map (λ w. w.items) i.wts; pl = i.pl.items; scl = i.scl.items } };
+    ghost view = { λ i. record { aux = i.aux.items; nodes = i.nodes.items; nets = i.nets.items; wts = option_map (λ w. w.items) i.wts; pl = i.pl.items; scl = i.scl.items } };
 
-    ghost invariant = { λ i. AreSound (record { nodes = i.nodes.items; nets = i.nets.items; wts = option_map (λ w. w.items) i.wts; pl = i.pl.items; scl = i.scl.items }) };
+    ghost invariant = { λ i. AreSound (record { aux = i.aux.items; nodes = i.nodes.items; nets = i.nets.items; wts = option_map (λ w. w.items) i.wts; pl = i.pl.items; scl = i.scl.items }) };
 }
 
 impl Inputs {
-    ghost use Rattle.proud_top.specs.Inputs.{Designs};
+    ghost use Rattle.proud_top.specs.Forms.Inputs.{text_of};
+    ghost use Rattle.proud_top.specs.Named.{IsNodeName, IsPointName};
+    ghost use Rattle.proud_top.specs.Forms.Stops.{Designs, HasNode, HasPoint, IsDesignOf};
+
+    /// The bytes of the file of the kind, where the design has one.
+    pub(crate) fn file(&self, kind: FileKind) -> Option<&[u8]>
+        ensures { option_map (λ bytes. bytes.now) result ≡ text_of self.now kind }
+    {
+        match kind {
+            FileKind::Aux => Some(&self.aux),
+            FileKind::Nodes => Some(&self.nodes),
+            FileKind::Nets => Some(&self.nets),
+            FileKind::Wts => self.wts.as_deref(),
+            FileKind::Pl => Some(&self.pl),
+            FileKind::Scl => Some(&self.scl),
+        }
+    }
 
     /// The design that the texts make, or their first fault.
-    pub(crate) fn design(&self, alloc: Global) -> Result<Design<'_>, Halt>
+    pub(crate) fn design(&self, alloc: Global) -> Result<Design<'_>, Stop>
         ensures { Designs self.now result }
     {
         let nodes = sound(read_nodes(alloc, &self.nodes))?;
@@ -47,11 +71,41 @@ impl Inputs {
         let design = join_design(alloc, &nodes, &nets, wts.as_ref(), &pl, &scl)?;
         Ok(design)
     }
+
+    /// The name of the node of that number.
+    pub(crate) fn node_name(&self, alloc: Global, node: u32) -> Result<Vec<u8>, Memory>
+        requires { HasNode self.now node }
+        ensures { IfOk result (λ name. IsNodeName (AreRecords self.now) name.items node) }
+    {
+        laws();
+        let nodes = sound(read_nodes(alloc, &self.nodes))?;
+        name_at(alloc, nodes.as_slice(), node)
+    }
+
+    /// The name of the node that is the point.
+    pub(crate) fn point_name(&self, alloc: Global, point: u32) -> Result<Vec<u8>, Memory>
+        requires { HasPoint self.now point }
+        ensures { IfOk result (λ name. IsPointName (AreRecords self.now) name.items point) }
+    {
+        laws();
+        let design = self.joined(alloc)?;
+        name_of_point(alloc, &design, point)
+    }
+
+    /// The design of texts that make one: for those memory alone can be wanting.
+    fn joined(&self, alloc: Global) -> Result<Design<'_>, Memory>
+        ensures { IfOk result (IsDesignOf self.now) }
+    {
+        match self.design(alloc) {
+            Ok(design) => Ok(design),
+            Err(_) => Err(Memory),
+        }
+    }
 }
 
 /// The weights, where there is a text of them.
 fn read_weights<'a>(alloc: Global, text: Option<&'a [u8]>) -> Result<Option<WeightFile<'a>>, Memory>
-    requires { IfSome (option_map (λ t. t.now) text) (λ t. IsSoundText weights_grammar t) }
+    requires { IfSome (option_map (λ t. t.now) text) (λ t. IsSoundText Wts t) }
     ensures { IfOk result (λ weights. AreWeights (option_map (λ t. t.now) text.entry) weights) }
 {
     match text {
@@ -61,7 +115,7 @@ fn read_weights<'a>(alloc: Global, text: Option<&'a [u8]>) -> Result<Option<Weig
 }
 
 /// What a reader answers of a text without a fault.
-fn sound<T>(answer: Result<T, ReadError>) -> Result<T, Memory>
+pub(crate) fn sound<T>(answer: Result<T, ReadError>) -> Result<T, Memory>
     requires { IsSound answer }
     ensures { IsSameRecords answer result }
 {
@@ -70,4 +124,21 @@ fn sound<T>(answer: Result<T, ReadError>) -> Result<T, Memory>
         Err(ReadError::Memory) => Err(Memory),
         Err(ReadError::Fault(_)) => unreachable!(),
     }
+}
+
+/// The name of the node of that number.
+fn name_at(alloc: Global, nodes: &[NodeLine<'_>], number: u32) -> Result<Vec<u8>, Memory>
+    requires { number < length nodes.now }
+    ensures { IfOk result (λ name. IsNameAt (node_entries nodes.now) name.items number) }
+{
+    Ok(Vec::from_slice(alloc, nodes[number as usize].name.0)?)
+}
+
+/// The name of the node that is the point.
+fn name_of_point(alloc: Global, design: &Design<'_>, point: u32) -> Result<Vec<u8>, Memory>
+    requires { point < count_by is_movable design.now.nodes }
+    ensures { IfOk result (λ name. IsPointNamed design.now name.items point) }
+{
+    let node = design.node_of(point);
+    Ok(Vec::from_slice(alloc, design.nodes()[node as usize].name.0)?)
 }

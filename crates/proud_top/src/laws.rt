@@ -18,8 +18,7 @@ ghost use Rattle.net_model.specs.Values.{NetworkValue};
 ghost use Rattle.net_model.specs.Answers.{HasOneNetwork};
 ghost use Rattle.core_system.specs.declared.axis.Axis.{Axis};
 ghost use Rattle.core_system.specs.CoreSystem.{system_of};
-ghost use Rattle.proud_top.specs.Report.{Solve};
-ghost use Rattle.proud_top.specs.Stops.{IsSolveOf};
+ghost use Rattle.proud_top.specs.Solve.{SolveValue, IsSolveOf};
 
 use book_design::one_join;
 use book_files::one_answer;
@@ -45,7 +44,7 @@ pub(crate) fn laws()
 /// The two extremal vectors of a network's system, in which each point has a chain, are fixed points and enclose every
 /// exact solution.
 pub(crate) fn solves()
-    ensures { (axis : Axis) (network : NetworkValue) (solve : Solve) → IsValid (system_of axis network)
+    ensures { (axis : Axis) (network : NetworkValue) (solve : SolveValue) → IsValid (system_of axis network)
         → ((p : ℕ) → p < length (system_of axis network) → HasChain (joints_of (system_of axis network)) p)
         → IsLeast (system_of axis network) solve.lo → IsGreatest (system_of axis network) solve.hi
         → IsSolveOf axis network solve }

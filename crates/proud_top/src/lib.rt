@@ -1,24 +1,24 @@
 //! The top call: from the words of a command line and a folder of files to a report.
 //!
-//! The flow is: read the files, join them to a design, make its network, find that each point reaches a pad, make its
-//! system on each axis, solve that from below and from above by a crew of seats, report. What comes in are words, a folder,
-//! a sink for the report and a gate; what goes out is a status. The one contract is that of `proud`.
+//! It is two lists of steps. What touches the outside is `run`: take the words, gather the texts of the design's files, place
+//! them, put the report; a step that stops puts its line instead. What is a function of values is `place`: join the texts to a
+//! design, make its network, find that each point reaches a pad, solve it on each axis from below and from above by a crew of
+//! seats, write the report. What comes in are words, a folder, a sink for the report and a gate; what goes out is a status. The
+//! one contract is that of `proud`, over the same list of steps as a definition (`specs/Flow.antt`).
 //!
 //! The placer is modelled on PROUD (R.-S. Tsay, E. S. Kuh, C.-P. Hsu, IEEE Design & Test of Computers, 1988). It departs
 //! from it in that the equations are solved in whole numbers, from both sides, without over-relaxation.
 #![tactic(auto)]
 
 mod crew;
-mod halt;
+mod gather;
 mod inputs;
 mod laws;
-mod lines;
 mod place;
-mod reading;
+mod refusal;
 mod report;
 mod request;
 mod solution;
-mod solving;
 mod status;
 mod stop;
 mod top;

@@ -1,15 +1,11 @@
-//! The steps from the records of a design's files to its report.
+//! From the texts of a design to what is put, a function of values.
 
-ghost use Rattle.std.specs.Prelude.{◌≡◌, ◌^◌, ◌<◌, length, option_map};
-ghost use Rattle.book_design.specs.Records.{Records};
-ghost use Rattle.proud_top.specs.Halts.{Places};
+ghost use Rattle.proud_top.specs.Forms.Stops.{Places};
 
 use crate::crew::Crew;
-use crate::halt::Halt;
+use crate::inputs::Inputs;
 use crate::report::report_text;
-use crate::solution::Solution;
-use book_design::join_design;
-use book_files::{NetFile, NodeFile, PlaceFile, RowFile, WeightFile};
+use crate::stop::Stop;
 use book_outer::Gate;
 use core_system::Axis;
 use net_model::network;
@@ -17,26 +13,26 @@ use pad_reach::reach;
 use std::alloc::Global;
 use std::thread::Threads;
 
-/// The report of the design that these records make, or the refusal at the first step that stops.
+/// What a placed design puts.
+#[derive(Drop)]
+pub(crate) struct Placed {
+    /// The report's text.
+    pub(crate) report: Vec<u8>,
+}
+
+/// What the texts make, solved by the crew, or the refusal at the first step that stops.
 pub(crate) fn place<R: Threads + Sync, G: Gate>(
     crew: &Crew<'_, R, G>,
     alloc: Global,
-    nodes: &NodeFile<'_>,
-    nets: &NetFile<'_>,
-    weights: Option<&WeightFile<'_>>,
-    places: &PlaceFile<'_>,
-    rows: &RowFile,
-) -> Result<Vec<u8>, Halt>
-    requires few_nodes { length nodes.now < 2 ^ 32 }
-    requires few_nets { length nets.now < 2 ^ 32 }
-    requires few_rows { length rows.now < 2 ^ 32 }
-    ensures { Places (record { nodes = nodes.now; nets = nets.now; weights = option_map (λ w. w.now) weights.entry; places = places.now; rows = rows.now }) result }
+    inputs: &Inputs,
+) -> Result<Placed, Stop>
+    ensures { Places inputs.now result }
 {
-    let design = join_design(alloc, nodes, nets, weights, places, rows)?;
+    let design = inputs.design(alloc)?;
     let network = network(alloc, &design)?;
     reach(alloc, &network)?;
-    let x = Solution::new(crew, alloc, &network, Axis::X)?;
-    let y = Solution::new(crew, alloc, &network, Axis::Y)?;
-    let text = report_text(alloc, design.nodes(), &x, &y)?;
-    Ok(text)
+    let x = crew.solve(alloc, &network, Axis::X)?;
+    let y = crew.solve(alloc, &network, Axis::Y)?;
+    let report = report_text(alloc, design.nodes(), &x, &y)?;
+    Ok(Placed { report })
 }

@@ -2,9 +2,10 @@
 
 ghost use Rattle.std.specs.Prelude.{◌≡◌, ◌++◌, length, decimal, IfOk, OnOk};
 ghost use Rattle.book_design.specs.Values.{node_values};
-ghost use Rattle.proud_top.specs.Report.{IsOver, signed_text, ends_text, report_line, report_from, names_of};
+ghost use Rattle.proud_top.specs.Forms.Over.{IsOver};
+ghost use Rattle.proud_top.specs.Report.{signed_text, ends_text, report_line, report_from, names_of};
 
-use crate::solution::Solution;
+use crate::solution::Solve;
 use book_design::Node;
 use book_text::Memory;
 use std::alloc::Global;
@@ -16,8 +17,8 @@ const SHIFT: u64 = 1_000_000_000_000;
 pub(crate) fn report_text(
     alloc: Global,
     nodes: &[Node<'_>],
-    x: &Solution,
-    y: &Solution,
+    x: &Solve,
+    y: &Solve,
 ) -> Result<Vec<u8>, Memory>
     requires x { IsOver (length (names_of (node_values nodes.now))) x.now }
     requires y { IsOver (length (names_of (node_values nodes.now))) y.now }

@@ -1,16 +1,15 @@
 //! What the words of a command line ask for.
 
 ghost use Rattle.std.specs.Prelude.{◌≡◌, ◌≤◌, None, IfSome, MatchOption};
-ghost use Rattle.proud_top.specs.Request.{requested, seats_in, IsRequest};
+ghost use Rattle.proud_top.specs.Request.{requested, seats_in};
+ghost use Rattle.proud_top.specs.Forms.Asked.{IsRequest};
 
 use book_outer::Words;
 use book_text::read_whole;
+use relax_crew::MOST_SEATS;
 
 /// How many seats solve a system where the words don't say.
 const USUAL_SEATS: usize = 4;
-
-/// How many seats may be asked for.
-const MOST_SEATS: u64 = 64;
 
 /// The name of a design's aux file, and how many seats are to solve its systems.
 #[derive(Clone, Copy)]
@@ -40,10 +39,10 @@ pub(crate) fn requested(words: &Words) -> Option<Request<'_>>
 fn seats_in(word: &str) -> Option<usize>
     ensures seats { result ≡ seats_in word.now }
     ensures some { IfSome result (λ seats. 1 ≤ seats) }
-    ensures few { IfSome result (λ seats. seats ≤ 64) }
+    ensures few { IfSome result (λ seats. seats ≤ MOST_SEATS) }
 {
     match read_whole(word.as_bytes()) {
-        Ok(seats) if 1 <= seats && seats <= MOST_SEATS => Some(seats as usize),
+        Ok(seats) if 1 <= seats && seats <= MOST_SEATS as u64 => Some(seats as usize),
         Ok(_) | Err(_) => None,
     }
 }

@@ -1,6 +1,7 @@
 ghost use Rattle.std.specs.Prelude.{◌≡◌};
 ghost use Rattle.proud_top.specs.Codes.{code_of};
 
+use crate::stop::Stop;
 use book_design::DesignFault;
 use book_files::{FileKind, TextFault};
 use net_model::NetFault;
@@ -50,6 +51,20 @@ impl Status {
             Status::ReadFault(_) => 3,
             Status::WriteFault => 4,
             Status::Memory => 5,
+        }
+    }
+}
+
+impl From<Stop> for Status {
+    ghost use Rattle.proud_top.specs.Forms.Stops.{status_of};
+
+    ghost from_gives = { λ stop status. status ≡ status_of stop };
+
+    fn from(stop: Stop) -> Status {
+        match stop {
+            Stop::ReadFault(kind) => Status::ReadFault(kind),
+            Stop::Refused(refusal) => Status::Refused(refusal),
+            Stop::Memory => Status::Memory,
         }
     }
 }

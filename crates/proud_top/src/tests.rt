@@ -1,7 +1,8 @@
 ghost use Rattle.std.specs.Prelude.{IfOk};
 ghost use Rattle.book_outer.specs.Files.{AreNamesDistinct};
 
-use crate::lines::refusal_line;
+use crate::refusal::fault_line;
+use crate::stop::Stop;
 use crate::{DesignFault, FileKind, NetFault, Refusal, Status, TextFault, TextKind, proud};
 use book_outer::{Calls, Files, MemFolder, MemSink, OpenGate, Words};
 use book_text::Memory;
@@ -298,7 +299,7 @@ fn with_fault(
 }
 
 #[test]
-fn faults_of_texts_are_told(rt: HostRuntime) -> Result<(), Fail> {
+fn faults_of_texts_are_named(rt: HostRuntime) -> Result<(), Fail> {
     let no_header = Texts {
         aux: b"a.nodes a.nets a.pl a.scl\n",
         ..one_cell()
@@ -375,14 +376,14 @@ fn faults_of_texts_are_told(rt: HostRuntime) -> Result<(), Fail> {
             kind: case.fault,
         };
         let refusal = Refusal::Text(case.kind, fault);
-        let told = case_of(case.texts, Status::Refused(refusal), case.report);
-        assert_case(&rt, rt.alloc(), told)?;
+        let refused = case_of(case.texts, Status::Refused(refusal), case.report);
+        assert_case(&rt, rt.alloc(), refused)?;
     }
     Ok(())
 }
 
 #[test]
-fn faults_of_designs_are_told(rt: HostRuntime) -> Result<(), Fail> {
+fn faults_of_designs_are_named(rt: HostRuntime) -> Result<(), Fail> {
     let twice = b"UCLA nodes 1.0\nNumNodes : 4\nNumTerminals : 2\n\
         a 2 10\na 2 10\nl 0 0 terminal\nr 0 0 terminal\n";
     let tall = b"UCLA nodes 1.0\nNumNodes : 3\nNumTerminals : 2\n\
@@ -473,7 +474,7 @@ fn faults_of_designs_are_told(rt: HostRuntime) -> Result<(), Fail> {
 }
 
 #[test]
-fn points_that_reach_no_pad_are_told(rt: HostRuntime) -> Result<(), Fail> {
+fn points_that_reach_no_pad_are_named(rt: HostRuntime) -> Result<(), Fail> {
     let alone = with_nodes(
         b"UCLA nodes 1.0\nNumNodes : 4\nNumTerminals : 2\n\
         a 2 10\nc 2 10\nl 0 0 terminal\nr 0 0 terminal\n",
@@ -533,12 +534,12 @@ fn assert_many_nets<R: Threads + Abort + Sync>(
 }
 
 #[test]
-fn points_that_are_too_heavy_are_told(rt: HostRuntime) -> Result<(), Fail> {
+fn points_that_are_too_heavy_are_named(rt: HostRuntime) -> Result<(), Fail> {
     let light = b"a 0 0 5000000 5000000\n";
     assert_many_nets(&rt, rt.alloc(), 19_973, Status::Done, light)?;
     let heavy = Status::Refused(Refusal::Net(NetFault::Heavy(0)));
-    let told = b"proud: node a: too heavy\n";
-    assert_many_nets(&rt, rt.alloc(), 19_974, heavy, told)?;
+    let line = b"proud: node a: too heavy\n";
+    assert_many_nets(&rt, rt.alloc(), 19_974, heavy, line)?;
     Ok(())
 }
 
@@ -568,18 +569,18 @@ fn assert_many_pads<R: Threads + Abort + Sync>(
 }
 
 #[test]
-fn nets_that_are_too_wide_are_told(rt: HostRuntime) -> Result<(), Fail> {
+fn nets_that_are_too_wide_are_named(rt: HostRuntime) -> Result<(), Fail> {
     let narrow = b"a 0 1 4999999 5000001\nb 0 1 4999999 5000001\n";
     assert_many_pads(&rt, rt.alloc(), 510, Status::Done, narrow)?;
     let wide = Status::Refused(Refusal::Net(NetFault::NetTooWide(0)));
-    let told = b"proud: net 0: too wide\n";
-    assert_many_pads(&rt, rt.alloc(), 511, wide, told)?;
+    let line = b"proud: net 0: too wide\n";
+    assert_many_pads(&rt, rt.alloc(), 511, wide, line)?;
     Ok(())
 }
 
 /// 512 cells stand in each of 129 nets.
 #[test]
-fn nets_with_too_many_edges_are_told(rt: HostRuntime) -> Result<(), Fail> {
+fn nets_with_too_many_edges_are_named(rt: HostRuntime) -> Result<(), Fail> {
     let alloc = rt.alloc();
     let node_text = lines_of(alloc, "UCLA nodes 1.0\nNumNodes : 512\n", "c", " 2 10", 512)?;
     let net = lines_of(alloc, "NetDegree : 512\n", "c", " B", 512)?;
@@ -594,8 +595,8 @@ fn nets_with_too_many_edges_are_told(rt: HostRuntime) -> Result<(), Fail> {
         ..one_cell()
     };
     let refused = Status::Refused(Refusal::Net(NetFault::TooManyEdges(16_875_264)));
-    let told = b"proud: too many edges: 16875264\n";
-    assert_case(&rt, alloc, case_of(texts, refused, told))?;
+    let line = b"proud: too many edges: 16875264\n";
+    assert_case(&rt, alloc, case_of(texts, refused, line))?;
     Ok(())
 }
 
@@ -603,7 +604,7 @@ fn nets_with_too_many_edges_are_told(rt: HostRuntime) -> Result<(), Fail> {
 const USAGE: &[u8] = b"usage: proud [--seats N] DESIGN\n";
 
 #[test]
-fn others_are_told(rt: HostRuntime) -> Result<(), Fail> {
+fn other_statuses_are_answered(rt: HostRuntime) -> Result<(), Fail> {
     let usage = case_of(one_cell(), Status::Usage, USAGE);
     let tall = b"UCLA nodes 1.0\nNumNodes : 3\na 2 11\nl 0 0 terminal\nr 0 0 terminal\n";
     let refused = case_of(
@@ -701,7 +702,7 @@ fn files_stand_beside_the_aux_file(rt: HostRuntime) -> Result<(), Fail> {
 }
 
 #[test]
-fn absent_files_are_told(rt: HostRuntime) -> Result<(), Fail> {
+fn absent_files_are_named(rt: HostRuntime) -> Result<(), Fail> {
     let alloc = rt.alloc();
     let cases: [(Texts<'static>, FileKind, &'static [u8]); 2] = [
         (one_cell(), FileKind::Pl, b"proud: cannot read pl\n"),
@@ -722,7 +723,8 @@ fn absent_files_are_told(rt: HostRuntime) -> Result<(), Fail> {
 // A file of so many bytes is too large for a test, so its line alone is looked at.
 #[test]
 fn the_line_of_a_file_that_is_too_long(rt: HostRuntime) -> Result<(), Fail> {
-    let line = refusal_line(rt.alloc(), Refusal::TooLong(FileKind::Nets), b"")?;
+    let stop = Stop::Refused(Refusal::TooLong(FileKind::Nets));
+    let line = fault_line(rt.alloc(), stop, None)?;
     let expected: &[u8] = b"proud: nets: longer than 268435456 bytes\n";
     assert!(rt; line.as_slice() == expected);
     Ok(())

@@ -1,20 +1,22 @@
-ghost use Rattle.std.specs.Prelude.{◌≡◌, ◌⊎◌, ℕ, List, Some, None, Result};
+ghost use Rattle.std.specs.Prelude.{◌≡◌, ◌⊎◌, ℕ, List, Some, None, Result, option_map};
 ghost use Rattle.book_outer.specs.Files.{FileEntry};
 ghost use Rattle.book_files.specs.declared.records.FileKind.{FileKind};
 ghost use Rattle.proud_top.specs.declared.status.Refusal.{Refusal};
-ghost use Rattle.proud_top.specs.Lines.{cannot_read_line, refusal_line};
 ghost use Rattle.proud_top.specs.Request.{requested};
 ghost use Rattle.proud_top.specs.Flow.{places};
-ghost use Rattle.proud_top.specs.Statuses.{IsDone, IsUsage, IsRefused, IsReadFault, IsWriteFault, IsMemory, IsCause, Says, Puts, IsPlaceable, AreReadsCalm, ArePutsCalm, IsUntouched};
+ghost use Rattle.proud_top.specs.Statuses.{IsDone, IsUsage, IsRefused, IsReadFault, IsWriteFault, IsMemory, IsCause, IsPlaceable, AreReadsCalm, ArePutsCalm, IsUntouched};
+ghost use Rattle.proud_top.specs.Forms.Saying.{Says, Puts};
+ghost use Rattle.proud_top.specs.Forms.Stops.{CoversStop, Refuses};
 
 use crate::crew::Crew;
+use crate::gather::gather;
+use crate::inputs::Inputs;
 use crate::laws::laws;
-use crate::lines::{fault_line, refusal_line};
-use crate::reading::placed;
+use crate::place::place;
+use crate::refusal::fault_line;
 use crate::request::requested;
-use crate::status::{Refusal, Status};
+use crate::status::Status;
 use crate::stop::Stop;
-use book_files::FileKind;
 use book_outer::{Folder, Gate, Sink, Trouble, Words};
 use std::alloc::Global;
 use std::thread::Threads;
@@ -24,7 +26,7 @@ use std::thread::Threads;
 /// The words are the program's name, `--seats N` where a number of seats is asked for, and the name of the design's aux
 /// file. The report gets one line per cell, `NAME XLO XHI YLO YHI` in millionths of a Bookshelf unit, or, where the words, a
 /// file or the design is at fault, one line that says so. It doesn't depend on the number of seats, which are 4 where none
-/// is asked for. The gate is told of the first sweep of each crew.
+/// is asked for. The gate is called in the first sweep of each crew.
 pub fn proud<R: Threads + Sync, F: Folder, S: Sink, G: Gate>(
     rt: &R,
     alloc: Global,
@@ -86,12 +88,14 @@ fn run<R: Threads + Sync, F: Folder, S: Sink, G: Gate>(
     let Some(request) = requested(words) else {
         return put(report, USAGE_LINE, Status::Usage, Status::Usage);
     };
+    let inputs = match gather(alloc, folder, request.design) {
+        Ok(inputs) => inputs,
+        Err(stop) => return refuse(alloc, report, stop, None),
+    };
     let crew = Crew::new(rt, gate, request.seats);
-    match placed(&crew, alloc, folder, request.design) {
-        Ok(text) => put(report, &text, Status::Done, Status::WriteFault),
-        Err(Stop::Refused(refusal, name)) => put_refusal(alloc, report, refusal, &name),
-        Err(Stop::Unread(kind)) => put_fault(alloc, report, kind),
-        Err(Stop::Memory) => Status::Memory,
+    match place(&crew, alloc, &inputs) {
+        Ok(placed) => put(report, &placed.report, Status::Done, Status::WriteFault),
+        Err(stop) => refuse(alloc, report, stop, Some(&inputs)),
     }
 }
 
@@ -106,22 +110,16 @@ fn put<S: Sink>(report: &mut S, text: &[u8], done: Status, failed: Status) -> St
     }
 }
 
-/// Puts why the design was refused.
-fn put_refusal<S: Sink>(alloc: Global, report: &mut S, refusal: Refusal, name: &[u8]) -> Status
-    ensures { Puts (refusal_line refusal name.now) (Status.Refused refusal) (Status.Refused refusal) (S.state report.old) (S.state report.new) result }
+/// Puts the line of a stop. For want of memory there is none.
+fn refuse<S: Sink>(alloc: Global, report: &mut S, stop: Stop, inputs: Option<&Inputs>) -> Status
+    requires { CoversStop (option_map (λ i. i.now) inputs) stop }
+    ensures { Refuses (option_map (λ i. i.now) inputs.entry) stop (S.state report.old) (S.state report.new) result }
 {
-    match refusal_line(alloc, refusal, name) {
-        Ok(line) => put(report, &line, Status::Refused(refusal), Status::Refused(refusal)),
-        Err(_) => Status::Memory,
+    if stop == Stop::Memory {
+        return Status::Memory;
     }
-}
-
-/// Puts that a file couldn't be read.
-fn put_fault<S: Sink>(alloc: Global, report: &mut S, kind: FileKind) -> Status
-    ensures { Puts (cannot_read_line kind) (Status.ReadFault kind) (Status.ReadFault kind) (S.state report.old) (S.state report.new) result }
-{
-    match fault_line(alloc, kind) {
-        Ok(line) => put(report, &line, Status::ReadFault(kind), Status::ReadFault(kind)),
+    match fault_line(alloc, stop, inputs) {
+        Ok(line) => put(report, &line, Status::from(stop), Status::from(stop)),
         Err(_) => Status::Memory,
     }
 }

@@ -8,15 +8,15 @@ use book_outer::{Calls, Gate, MemFolder, MemSink};
 use book_text::Memory;
 use std::alloc::Global;
 use std::process::Abort;
-use std::sync::atomic::{AtomicBool, AtomicU64, Ordering};
+use std::sync::atomic::{AtomicU64, Ordering};
 use std::test::Fail;
 use std::thread::Threads;
 
 #[test]
 fn seats_may_be_asked_for(rt: HostRuntime) -> Result<(), Fail> {
-    let told: &'static [u8] =
+    let line: &'static [u8] =
         b"a 3333333 3333334 4999999 5000001\nb 6666666 6666667 4999999 5000001\n";
-    let placed = case_of(two_cells(), Status::Done, told);
+    let placed = case_of(two_cells(), Status::Done, line);
     let good: [&'static [&'static str]; 4] = [
         &["proud", "--seats", "1", "a.aux"],
         &["proud", "--seats", "7", "a.aux"],
@@ -57,32 +57,36 @@ fn seats_may_be_asked_for(rt: HostRuntime) -> Result<(), Fail> {
 /// How often a seat looks for the other one.
 const TURNS: u64 = 50_000_000;
 
-/// Whether a seat has passed the gate, and whether it saw at its first pass that the other one had.
+/// How often a seat has passed the gate, and at how many of its passes it saw that the other one had as often.
 #[derive(Drop)]
 struct Flags {
-    passed: AtomicBool,
-    met: AtomicBool,
+    passes: AtomicU64,
+    met: AtomicU64,
 }
 
 impl Flags {
     fn new() -> Flags {
         Flags {
-            passed: AtomicBool::new(false),
-            met: AtomicBool::new(false),
+            passes: AtomicU64::new(0),
+            met: AtomicU64::new(0),
         }
     }
 
-    /// At the first pass it looks for the other seat, for so many turns at most.
+    /// At each pass it looks for the other seat, for so many turns at most.
     fn pass(&self, other: &Flags) {
-        if self.passed.swap(true, Ordering::SeqCst) {
-            return;
+        let before = self.passes.fetch_add(1, Ordering::SeqCst);
+        if (0..TURNS).any(|_| other.passes.load(Ordering::SeqCst) > before) {
+            self.met.fetch_add(1, Ordering::SeqCst);
         }
-        let met = (0..TURNS).any(|_| other.passed.load(Ordering::SeqCst));
-        self.met.store(met, Ordering::SeqCst);
+    }
+
+    /// It has passed once in each of the four solves, and met the other one each time.
+    fn has_met(&self) -> bool {
+        self.passes.load(Ordering::SeqCst) == 4 && self.met.load(Ordering::SeqCst) == 4
     }
 }
 
-/// Holds each of two seats after its first relaxation until the other one has made one.
+/// Holds each of two seats after the one relaxation of its first sweep until the other one has made as many.
 #[derive(Drop)]
 struct Meeting {
     first: Flags,
@@ -99,7 +103,7 @@ impl Gate for Meeting {
     }
 }
 
-/// Each of the two seats that are asked for sees the other one inside its first sweep.
+/// Each of the two seats that are asked for sees the other one inside its first sweep, in each of the four solves.
 #[test]
 fn proud_meets(rt: HostRuntime) -> Result<(), Fail> {
     let alloc = rt.alloc();
@@ -112,8 +116,8 @@ fn proud_meets(rt: HostRuntime) -> Result<(), Fail> {
     };
     let status = proud(&rt, alloc, &words, &mut folder, &mut report, &gate);
     assert_eq!(rt; status, Status::Done);
-    assert!(rt; gate.first.met.load(Ordering::SeqCst));
-    assert!(rt; gate.second.met.load(Ordering::SeqCst));
+    assert!(rt; gate.first.has_met());
+    assert!(rt; gate.second.has_met());
     Ok(())
 }
 
@@ -195,6 +199,18 @@ fn as_many_seats_work_as_are_asked_for(rt: HostRuntime) -> Result<(), Fail> {
         alloc,
         &["proud", "--seats", "3", "a.aux"],
         &[0, 1, 2, 2],
+    )?;
+    deals(
+        &rt,
+        alloc,
+        &["proud", "--seats", "7", "a.aux"],
+        &[1, 3, 5, 6],
+    )?;
+    deals(
+        &rt,
+        alloc,
+        &["proud", "--seats", "64", "a.aux"],
+        &[15, 31, 47, 63],
     )?;
     Ok(())
 }

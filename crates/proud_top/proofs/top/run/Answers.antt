@@ -1,6 +1,7 @@
 use Rattle.std.proofs.Common.{refl}
-use Rattle.proud_top.specs.declared.status.Status.TheVariants.{Done, Usage, Refused, ReadFault}
-use Rattle.proud_top.proofs.Saying.{says, due_report, due_refusal, due_fault}
+use Rattle.std.specs.Prelude.{Some, None}
+use Rattle.proud_top.specs.declared.status.Status.TheVariants.{Done, Usage}
+use Rattle.proud_top.proofs.Saying.{says, says_stop, covered_gather, covered_place, due_gather, due_place, due_report}
 use Rattle.proud_top.proofs.top.run.Goals as goal
 
 pub returns-in_default-clause-says : goal.returns-in_default-clause-says
@@ -8,28 +9,26 @@ returns-in_default-clause-says g c =
     says c.args.words.now (g.F.Folder.state c.args.folder.now) (g.F.Folder.state c.args.folder.now) (g.S.Sink.state c.args.report.now) (g.S.Sink.state c.put.new.report) Usage c.put.result _
     (record { form = c.in_default.ensures; line = refl }) (λ e. cc) c.put.ensures
 
-pub returns-in-Ok-clause-says : goal.returns-in-Ok-clause-says
-returns-in-Ok-clause-says g c =
+pub returns-in-Err-clause-says : goal.returns-in-Err-clause-says
+returns-in-Err-clause-says g c =
     let f = g.F.Folder.state c.args.folder.now in
-    let f' = g.F.Folder.state c.placed.new.folder in
-    let p = c.in-Ok.ensures.places in
-    says c.args.words.now f f' (g.S.Sink.state c.args.report.now) (g.S.Sink.state c.put-in-Ok.new.report) Done c.put-in-Ok.result c.in-Ok.text.items
-    (due_report c.args.words.now _ c.in-Ok.text.items f f' c.in-Some.ensures.asked p.0 p.1 p.2 p.3) (λ e. cc) (rw c.deref.ensures.value at c.put-in-Ok.ensures)
+    let f' = g.F.Folder.state c.gather.new.folder in
+    says_stop c.args.words.now f f' (g.S.Sink.state c.args.report.now) (g.S.Sink.state c.refuse.new.report) None c.in-Err.stop c.refuse.result
+    (due_gather c.args.words.now _ f f' c.in-Some.ensures.asked c.in-Err.stop c.in-Err.ensures) c.refuse.ensures
 
-pub returns-in-Err-Refused-clause-says : goal.returns-in-Err-Refused-clause-says
-returns-in-Err-Refused-clause-says g c =
+pub returns-in-Ok-place-clause-says : goal.returns-in-Ok-place-clause-says
+returns-in-Ok-place-clause-says g c =
     let f = g.F.Folder.state c.args.folder.now in
-    let f' = g.F.Folder.state c.placed.new.folder in
-    let refusal = c.in-Err-Refused.refusal in
-    let p = rw c.in-Err-Refused.field-0-is at c.in-Err-Refused.ensures.places in
-    says c.args.words.now f f' (g.S.Sink.state c.args.report.now) (g.S.Sink.state c.put_refusal.new.report) (Refused refusal) c.put_refusal.result _
-    (due_refusal c.args.words.now _ c.in-Err-Refused.name.items refusal f f' c.in-Some.ensures.asked p.0 p.1 p.2) (λ e. cc) (rw c.deref-in-Err-Refused.ensures.value at c.put_refusal.ensures)
+    let f' = g.F.Folder.state c.gather.new.folder in
+    says c.args.words.now f f' (g.S.Sink.state c.args.report.now) (g.S.Sink.state c.put-in-Ok-place.new.report) Done c.put-in-Ok-place.result c.in-Ok-place.placed.report.items
+    (due_report c.args.words.now _ f f' _ c.in-Ok-place.placed.report.items c.in-Some.ensures.asked c.in-Ok.ensures c.in-Ok-place.ensures) (λ e. cc) (rw c.deref.ensures.value at c.put-in-Ok-place.ensures)
 
-pub returns-in-Err-Unread-clause-says : goal.returns-in-Err-Unread-clause-says
-returns-in-Err-Unread-clause-says g c =
+pub refuse-requires-in-Err-place : goal.refuse-requires-in-Err-place
+refuse-requires-in-Err-place g c = covered_place _ c.in-Err-place.stop c.in-Err-place.ensures
+
+pub returns-clause-says : goal.returns-clause-says
+returns-clause-says g c =
     let f = g.F.Folder.state c.args.folder.now in
-    let f' = g.F.Folder.state c.placed.new.folder in
-    let kind = c.in-Err-Unread.kind in
-    let p = rw c.in-Err-Unread.field-0-is at c.in-Err-Unread.ensures.places in
-    says c.args.words.now f f' (g.S.Sink.state c.args.report.now) (g.S.Sink.state c.put_fault.new.report) (ReadFault kind) c.put_fault.result _
-    (due_fault c.args.words.now _ kind f f' c.in-Some.ensures.asked p.0 p.1) (λ e. cc) c.put_fault.ensures
+    let f' = g.F.Folder.state c.gather.new.folder in
+    says_stop c.args.words.now f f' (g.S.Sink.state c.args.report.now) (g.S.Sink.state c.refuse-in-Err-place.new.report) (Some c.in-Ok.inputs) c.in-Err-place.stop c.refuse-in-Err-place.result
+    (due_place c.args.words.now _ f f' _ c.in-Some.ensures.asked c.in-Ok.ensures c.in-Err-place.stop c.in-Err-place.ensures) c.refuse-in-Err-place.ensures

@@ -14,21 +14,13 @@ use Rattle.book_design.specs.Values.{DesignValue}
 use Rattle.book_design.specs.declared.fault.JoinError.{JoinError}
 use Rattle.book_design.specs.declared.fault.JoinError.TheVariants as join_error
 use Rattle.book_design.specs.Answers.{Answers as JoinAnswers}
-use Rattle.proud_top.specs.declared.halt.Halt.{Halt}
-use Rattle.proud_top.specs.Halts.{halt_of_join}
-use Rattle.proud_top.specs.Inputs.{Texts, IsSameRecords, AreWeights, AreRecords, Designs}
+use Rattle.proud_top.specs.declared.stop.Stop.{Stop}
+use Rattle.proud_top.specs.Forms.Inputs.{Texts, IsSameRecords, AreWeights, AreRecords}
+use Rattle.proud_top.specs.Forms.Stops.{stop_of_join, Designs}
+use Rattle.proud_top.proofs.Naming.{reads_as}
 use Rattle.proud_top.proofs.inputs.Inputs.design.Goals as goal
 
--- the records as which a text reads
-reads_as : {I R : Type 0} (grammar : Grammar I R) (text bytes : List ℕ) (answer : Result R ReadError) (records : R) → Answers grammar (λ (file : R). file) text answer → IsSameRecords answer (Ok records) → text ≡ bytes → IsReading grammar bytes records
-reads_as {R = R} grammar text bytes (Ok found) records h same e =
-    let P : R → Type 0 = λ r. IsReading grammar text r in
-    let Q : List ℕ → Type 0 = λ t. IsReading grammar t records in
-    subst Q e (subst P (sym same) h)
-reads_as grammar text bytes (Err (read_error.Fault fault)) records h same e = absurd same
-reads_as grammar text bytes (Err read_error.Memory) records h same e = absurd same
-
-join_stops : (texts : Texts) (records : Records) (error : JoinError) → AreRecords texts records → JoinAnswers records (Err error) → Designs texts (Err (halt_of_join error))
+join_stops : (texts : Texts) (records : Records) (error : JoinError) → AreRecords texts records → JoinAnswers records (Err error) → Designs texts (Err (stop_of_join error))
 join_stops texts records (join_error.Fault fault) read first = (records, read, (fault, refl, first))
 join_stops texts records join_error.Memory read first = tt
 
@@ -55,7 +47,7 @@ returns-in_err-design c =
     }) in
     let error = c.in_err-design.field-0.0 in
     let p = err_from_is_err_and c.from_residual-in_err-design.result c.from_residual-in_err-design.ensures.1 in
-    let q : p.0 ≡ halt_of_join error = p.2 in
+    let q : p.0 ≡ stop_of_join error = p.2 in
     rw (p.1, q) (join_stops _ records error read c.in_err-design.ensures)
 
 pub returns : goal.returns

@@ -1,0 +1,6 @@
+pub mod Asked
+pub mod Over
+pub mod Inputs
+pub mod Saying
+pub mod Stops
+pub mod Gathering

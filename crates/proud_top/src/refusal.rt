@@ -1,0 +1,286 @@
+//! The line of a stop: what it says, and the name of the node that it names.
+
+ghost use Rattle.std.specs.Prelude.{◌≡◌, ◌++◌, IfOk, IfSome, OnOk, option_map};
+ghost use Rattle.proud_top.specs.Lines.{kind_text, cannot_read_line, line_place, count_cause, text_cause, node_cause, row_cause, limit_cause, design_cause, wide_cause, edges_cause, net_cause, cause_text, refusal_line};
+ghost use Rattle.proud_top.specs.Named.{node_of, point_of, node_of_fault, point_of_fault, IsNameIn, IsNodeName, IsPointName};
+ghost use Rattle.proud_top.specs.Forms.Inputs.{AreRecords};
+ghost use Rattle.proud_top.specs.Forms.Stops.{AreRecordsOf, HasNode, HasPoint, Covers, CoversStop, IsLineOf};
+
+use crate::inputs::Inputs;
+use crate::status::Refusal;
+use crate::stop::Stop;
+use book_design::DesignFault;
+use book_files::{FileKind, TextKind};
+use book_text::Memory;
+use net_model::NetFault;
+use std::alloc::Global;
+
+/// The line of a stop, and nothing for want of memory. Where the stop names a node or a point, it is one of the inputs', in
+/// which its name is looked up.
+pub(crate) fn fault_line(
+    alloc: Global,
+    stop: Stop,
+    inputs: Option<&Inputs>,
+) -> Result<Vec<u8>, Memory>
+    requires { CoversStop (option_map (λ i. i.now) inputs) stop }
+    ensures { IfOk result (λ line. IsLineOf (option_map (λ i. i.now) inputs.entry) stop line.items) }
+{
+    match stop {
+        Stop::ReadFault(kind) => cannot_read_line(alloc, kind),
+        Stop::Refused(refusal) => {
+            let name = name_in(alloc, refusal, inputs)?;
+            refusal_line(alloc, refusal, &name)
+        }
+        Stop::Memory => Ok(Vec::new(alloc)),
+    }
+}
+
+/// The name of the node that a refusal names, and else nothing.
+fn name_in(alloc: Global, refusal: Refusal, inputs: Option<&Inputs>) -> Result<Vec<u8>, Memory>
+    requires { Covers (option_map (λ i. i.now) inputs) refusal }
+    ensures { IfOk result (λ name. IsNameIn (AreRecordsOf (option_map (λ i. i.now) inputs.entry)) refusal name.items) }
+{
+    match inputs {
+        Some(inputs) => name_among(alloc, refusal, inputs),
+        None => Ok(Vec::new(alloc)),
+    }
+}
+
+/// The name of the node of the inputs that a refusal names, and else nothing.
+fn name_among(alloc: Global, refusal: Refusal, inputs: &Inputs) -> Result<Vec<u8>, Memory>
+    requires node { IfSome (node_of refusal) (HasNode inputs.now) }
+    requires point { IfSome (point_of refusal) (HasPoint inputs.now) }
+    ensures { IfOk result (λ name. IsNameIn (AreRecords inputs.now) refusal name.items) }
+{
+    match refusal {
+        Refusal::Design(fault) => name_of_node(alloc, node_of_fault(fault), inputs),
+        Refusal::Net(fault) => name_of_point(alloc, point_of_fault(fault), inputs),
+        Refusal::Unanchored(point) => inputs.point_name(alloc, point),
+        Refusal::TooLong(_) | Refusal::Text(..) => Ok(Vec::new(alloc)),
+    }
+}
+
+/// The name of the node of that number, where there is one.
+fn name_of_node(alloc: Global, node: Option<u32>, inputs: &Inputs) -> Result<Vec<u8>, Memory>
+    requires { IfSome node (HasNode inputs.now) }
+    ensures { IfOk result (λ name. IfSome node (IsNodeName (AreRecords inputs.now) name.items)) }
+{
+    match node {
+        Some(node) => inputs.node_name(alloc, node),
+        None => Ok(Vec::new(alloc)),
+    }
+}
+
+/// The name of the node that is the point, where there is one.
+fn name_of_point(alloc: Global, point: Option<u32>, inputs: &Inputs) -> Result<Vec<u8>, Memory>
+    requires { IfSome point (HasPoint inputs.now) }
+    ensures { IfOk result (λ name. IfSome point (IsPointName (AreRecords inputs.now) name.items)) }
+{
+    match point {
+        Some(point) => inputs.point_name(alloc, point),
+        None => Ok(Vec::new(alloc)),
+    }
+}
+
+/// The number of the node that the fault names.
+fn node_of_fault(fault: DesignFault) -> Option<u32>
+    ensures { result ≡ node_of_fault fault }
+{
+    match fault {
+        DesignFault::NoPosition { node } | DesignFault::TallCell { node } => Some(node),
+        DesignFault::DuplicateName { .. }
+        | DesignFault::UnknownName { .. }
+        | DesignFault::NoRows
+        | DesignFault::MixedRows { .. }
+        | DesignFault::RowsOverlap { .. }
+        | DesignFault::Limit { .. } => None,
+    }
+}
+
+/// The point that the fault names.
+fn point_of_fault(fault: NetFault) -> Option<u32>
+    ensures { result ≡ point_of_fault fault }
+{
+    match fault {
+        NetFault::Heavy(point) => Some(point),
+        NetFault::NetTooWide(_) | NetFault::TooManyEdges(_) => None,
+    }
+}
+
+/// The line that says that a file couldn't be read.
+fn cannot_read_line(alloc: Global, kind: FileKind) -> Result<Vec<u8>, Memory>
+    ensures { IfOk result (λ line. line.items ≡ cannot_read_line kind) }
+{
+    let mut line = Vec::from_slice(alloc, b"proud: cannot read ")?;
+    line.extend_from_slice(kind_text(kind).as_bytes())?;
+    line.push(b'\n')?;
+    Ok(line)
+}
+
+/// The line of a refusal. The name is that of the node that the refusal names.
+pub(crate) fn refusal_line(alloc: Global, refusal: Refusal, name: &[u8]) -> Result<Vec<u8>, Memory>
+    ensures { IfOk result (λ line. line.items ≡ refusal_line refusal name.now) }
+{
+    let mut line = Vec::from_slice(alloc, b"proud: ")?;
+    push_cause(alloc, &mut line, refusal, name)?;
+    line.push(b'\n')?;
+    Ok(line)
+}
+
+/// Appends the cause of a refusal.
+fn push_cause(
+    alloc: Global,
+    line: &mut Vec<u8>,
+    refusal: Refusal,
+    name: &[u8],
+) -> Result<(), Memory>
+    ensures { OnOk result (line.new.items ≡ line.old.items ++ cause_text refusal name.now) }
+{
+    match refusal {
+        Refusal::TooLong(kind) => {
+            push(line, kind_text(kind))?;
+            push(line, ": longer than 268435456 bytes")
+        }
+        Refusal::Text(kind, fault) => {
+            push_place(alloc, line, kind, fault.line)?;
+            push_text_cause(alloc, line, fault.kind)
+        }
+        Refusal::Design(fault) => push_design_cause(alloc, line, fault, name),
+        Refusal::Net(fault) => push_net_cause(alloc, line, fault, name),
+        Refusal::Unanchored(_) => push_node(line, name, "reaches no pad"),
+    }
+}
+
+/// Appends what is wrong with a line of a file.
+fn push_text_cause(alloc: Global, line: &mut Vec<u8>, kind: TextKind) -> Result<(), Memory>
+    ensures { OnOk result (line.new.items ≡ line.old.items ++ text_cause kind) }
+{
+    match kind {
+        TextKind::BadHeader => push(line, "bad header"),
+        TextKind::BadLine => push(line, "bad line"),
+        TextKind::BadNumber => push(line, "bad number"),
+        TextKind::CountMismatch { told, found } => push_counts(alloc, line, told, found),
+    }
+}
+
+/// Appends two counts that differ.
+fn push_counts(alloc: Global, line: &mut Vec<u8>, told: u64, found: u64) -> Result<(), Memory>
+    ensures { OnOk result (line.new.items ≡ line.old.items ++ count_cause told found) }
+{
+    let counts = format!(in alloc; "count {told} but {found}")?;
+    push(line, counts.as_str())
+}
+
+/// Appends what is wrong with the files together.
+fn push_design_cause(
+    alloc: Global,
+    line: &mut Vec<u8>,
+    fault: DesignFault,
+    name: &[u8],
+) -> Result<(), Memory>
+    ensures { OnOk result (line.new.items ≡ line.old.items ++ design_cause fault name.now) }
+{
+    match fault {
+        DesignFault::DuplicateName { line: number } => {
+            push_place(alloc, line, FileKind::Nodes, number)?;
+            push(line, "name given twice")
+        }
+        DesignFault::UnknownName { file, line: number } => {
+            push_place(alloc, line, file, number)?;
+            push(line, "unknown name")
+        }
+        DesignFault::NoPosition { .. } => push_node(line, name, "no position"),
+        DesignFault::NoRows => push(line, "no rows"),
+        DesignFault::MixedRows { row } => push_row(alloc, line, row, "mixed rows"),
+        DesignFault::RowsOverlap { row } => push_row(alloc, line, row, "overlaps"),
+        DesignFault::TallCell { .. } => push_node(line, name, "taller than a row"),
+        DesignFault::Limit { kind, number } => push_limit(alloc, line, kind, number),
+    }
+}
+
+/// Appends what is wrong with the nets.
+fn push_net_cause(
+    alloc: Global,
+    line: &mut Vec<u8>,
+    fault: NetFault,
+    name: &[u8],
+) -> Result<(), Memory>
+    ensures { OnOk result (line.new.items ≡ line.old.items ++ net_cause fault name.now) }
+{
+    match fault {
+        NetFault::NetTooWide(number) => push_wide(alloc, line, number),
+        NetFault::TooManyEdges(number) => push_edges(alloc, line, number),
+        NetFault::Heavy(_) => push_node(line, name, "too heavy"),
+    }
+}
+
+/// Appends a quantity past its limit.
+fn push_limit(alloc: Global, line: &mut Vec<u8>, kind: u8, number: u64) -> Result<(), Memory>
+    ensures { OnOk result (line.new.items ≡ line.old.items ++ limit_cause kind number) }
+{
+    let limit = format!(in alloc; "limit {kind} {number}")?;
+    push(line, limit.as_str())
+}
+
+/// Appends the number of a net that is too wide.
+fn push_wide(alloc: Global, line: &mut Vec<u8>, number: u32) -> Result<(), Memory>
+    ensures { OnOk result (line.new.items ≡ line.old.items ++ wide_cause number) }
+{
+    let cause = format!(in alloc; "net {number}: too wide")?;
+    push(line, cause.as_str())
+}
+
+/// Appends how many pair terms there are.
+fn push_edges(alloc: Global, line: &mut Vec<u8>, number: u64) -> Result<(), Memory>
+    ensures { OnOk result (line.new.items ≡ line.old.items ++ edges_cause number) }
+{
+    let cause = format!(in alloc; "too many edges: {number}")?;
+    push(line, cause.as_str())
+}
+
+/// Appends the place of a fault: a file's kind and the number of a line.
+fn push_place(alloc: Global, line: &mut Vec<u8>, kind: FileKind, number: u64) -> Result<(), Memory>
+    ensures { OnOk result (line.new.items ≡ line.old.items ++ line_place kind number) }
+{
+    let place = format!(in alloc; "{}:{number}: ", kind_text(kind))?;
+    push(line, place.as_str())
+}
+
+/// Appends what is wrong with a row.
+fn push_row(alloc: Global, line: &mut Vec<u8>, row: u32, wrong: &str) -> Result<(), Memory>
+    ensures { OnOk result (line.new.items ≡ line.old.items ++ row_cause row wrong.now) }
+{
+    let cause = format!(in alloc; "row {row}: {wrong}")?;
+    push(line, cause.as_str())
+}
+
+/// Appends what is wrong with a node.
+fn push_node(line: &mut Vec<u8>, name: &[u8], wrong: &str) -> Result<(), Memory>
+    ensures { OnOk result (line.new.items ≡ line.old.items ++ node_cause name.now wrong.now) }
+{
+    push(line, "node ")?;
+    line.extend_from_slice(name)?;
+    push(line, ": ")?;
+    push(line, wrong)
+}
+
+/// Appends a text.
+fn push(line: &mut Vec<u8>, text: &str) -> Result<(), Memory>
+    ensures { OnOk result (line.new.items ≡ line.old.items ++ text.now) }
+{
+    Ok(line.extend_from_slice(text.as_bytes())?)
+}
+
+/// How a kind of file is printed.
+fn kind_text(kind: FileKind) -> &'static str
+    ensures { result.now ≡ kind_text kind }
+{
+    match kind {
+        FileKind::Aux => "aux",
+        FileKind::Nodes => "nodes",
+        FileKind::Nets => "nets",
+        FileKind::Wts => "wts",
+        FileKind::Pl => "pl",
+        FileKind::Scl => "scl",
+    }
+}
