@@ -121,7 +121,7 @@ load_stops kind name old now new word names m (Refused refusal) n h =
         });
         reads = h.3 ∙ n.below.read_faults;
       },
-      record { node = refl; point = refl }
+      record { node = refl; point = refl },
     ) where
       long : (o : Option (List FileEntry)) → old.files ≡ o → reads o word (Err (TooLong kind))
       long None e = tt
@@ -138,7 +138,7 @@ load_stops kind name old now new word names m (ReadFault other) n h =
         next = next_file old now word names kind name m files e n;
         begun = begun_more old now new m n.below.begun h.0.begun;
         present = λ there. missed_found old now new files name e (n.below.untouched.files ∙ e) h.0.missed n.below.missed there;
-      })
+      }),
     )
 load_stops kind name old now new word names m Memory n h = (untouched_more old now new n.below.untouched h.0.untouched, h.1 ∙ n.below.read_faults)
 
@@ -151,7 +151,7 @@ look_stops kind name text bytes old now new word names m (Refused refusal) same 
       untouched_more old now new n.below.untouched h.0.untouched,
       bad old.files refl,
       read_up_to old now new word names kind name bytes.items m n h.0 h.1 h.3,
-      record { node = refl; point = refl }
+      record { node = refl; point = refl },
     ) where
       bad : (o : Option (List FileEntry)) → old.files ≡ o → reads o word (Err (Text kind fault))
       bad None e = tt
@@ -176,8 +176,7 @@ next_read kind name text bytes old now new word names m same n h k =
     let L : List ℕ → Type 0 = λ t. Looks kind t (Ok tt) in
     let looked = subst L same k in
     let there = text_there old now new word names kind name bytes.items m n h.1 in
-    let up_to = read_up_to old now new word names kind name bytes.items m n h.0 h.1 h.3 in
-    (
+    let up_to = read_up_to old now new word names kind name bytes.items m n h.0 h.1 h.3 in (
       record { there = there; sound = record { short = h.2; clean = looked.1 }; readable = looked.0 },
       record {
         untouched = untouched_more old now new n.below.untouched h.0.untouched;
@@ -185,7 +184,7 @@ next_read kind name text bytes old now new word names m same n h k =
         begun = begun_more old now new m n.below.begun h.0.begun;
         missed = known old.files (λ files e. missed_same old now new files name bytes.items e (n.below.untouched.files ∙ e) h.0.missed n.below.missed (get _ old.files files e there));
         accepted = known old.files (λ files e. accepted files e (get _ old.files files e n.below.accepted) (get _ old.files files e there));
-      }
+      },
     ) where
       accepted : (files : List FileEntry) → old.files ≡ Some files → AreAccepted files word names (rank kind) → content files name ≡ Some bytes.items → AreAccepted files word names (suc (rank kind))
       accepted files e below there before path less named = by_order (cases_order (rank before) (rank kind)) where
@@ -298,8 +297,7 @@ pub gathered : (old mid now new : FolderState) (word : List ℕ) (names : AuxEnt
     → IsNext old now word names Scl (beside word names.scl) m → HasReadBelow old new word names 6 (suc m)
     → Gathers old new word (Ok (record { aux = aux; nodes = nodes; nets = nets; wts = texts_of wts; pl = pl; scl = scl }))
 gathered old mid now new word names m aux nodes nets pl scl wts shown a same reading nodes_text nets_text weights pl_text scl_text n h =
-    let P : List ℕ → Type 0 = λ t. IsReading aux_grammar t names in
-    (
+    let P : List ℕ → Type 0 = λ t. IsReading aux_grammar t names in (
       h.untouched,
       known old.files (λ files e. record {
         names = names;
@@ -320,5 +318,5 @@ gathered old mid now new word names m aux nodes nets pl scl wts shown a same rea
           present = get _ old.files files e h.missed;
         });
         reads = h.read_faults;
-      }
+      },
     )

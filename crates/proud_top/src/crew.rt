@@ -39,7 +39,12 @@ impl<'a, R: Threads + Sync, G: Gate> Crew<'a, R, G> {
     }
 
     /// The least and the greatest vector of the network's system on an axis. Without a point there is nothing to solve.
-    pub(crate) fn solve(&self, alloc: Global, network: &Network, axis: Axis) -> Result<Solve, Memory>
+    pub(crate) fn solve(
+        &self,
+        alloc: Global,
+        network: &Network,
+        axis: Axis,
+    ) -> Result<Solve, Memory>
         requires { (p : ℕ) → p < length network.now.points → HasChain (joints_of network.now) p }
         ensures { IfOk result (IsSolveOf axis network.now) }
     {

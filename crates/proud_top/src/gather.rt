@@ -22,11 +22,7 @@ use book_text::Memory;
 use std::alloc::Global;
 
 /// The texts of the design that the word names. Each file is loaded and looked through before the next is begun.
-pub(crate) fn gather<F: Folder>(
-    alloc: Global,
-    folder: &mut F,
-    design: &str,
-) -> Result<Inputs, Stop>
+pub(crate) fn gather<F: Folder>(alloc: Global, folder: &mut F, design: &str) -> Result<Inputs, Stop>
     ensures { Gathers (F.state folder.old) (F.state folder.new) design.now result }
 {
     let aux = next_text(alloc, folder, FileKind::Aux, design)?;
