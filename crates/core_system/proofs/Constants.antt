@@ -3,6 +3,7 @@ use Rattle.std.proofs.Common.{◌≡◌, ℕ, ◌+◌, ◌*◌, ◌^◌, ◌<◌
 use Rattle.std.specs.Prelude.{map, sum_by}
 use Rattle.std.proofs.Math.Nat.{mul-le-mul_left, mul-le-mul_right, add-mul}
 use Rattle.std.proofs.lemmas.List.Sums.{sum_by-cons, sum_by_more, sum_by-take-le}
+use Rattle.book_text.specs.Coordinates.{coordinate_of}
 use Rattle.book_design.specs.declared.parts.Core.{Core}
 use Rattle.book_design.specs.WellFormed.{IsGoodCore}
 use Rattle.net_model.specs.declared.limits.TheConstants.{MOST_WEIGHT}
@@ -11,7 +12,7 @@ use Rattle.net_model.specs.declared.parts.FixedPin.{FixedPin}
 use Rattle.relax_system.specs.declared.points.Near.{Near as Neighbour}
 use Rattle.relax_system.specs.System.{near_weight}
 use Rattle.core_system.specs.declared.axis.Axis.{Axis}
-use Rattle.core_system.specs.CoreSystem.{low_end, high_end, coordinate, clamped, as_neighbour}
+use Rattle.core_system.specs.CoreSystem.{low_end, high_end, clamped, as_neighbour}
 use Rattle.core_system.proofs.Places.{IsBox, core_box}
 
 abbrev pub pins_weight : List FixedPin → ℕ
@@ -22,8 +23,8 @@ pins_sum axis core pins = sum_by (λ pin. pin.weight * clamped axis core pin) pi
 
 -- the sum of clamped pins lies between that of the bottoms and that of the tops
 pub record IsSumInBox (axis : Axis) (core : Core) (pins : List FixedPin) : Type 0 where
-  pub low : pins_weight pins * coordinate (low_end axis core) ≤ pins_sum axis core pins
-  pub high : pins_sum axis core pins ≤ pins_weight pins * coordinate (high_end axis core)
+  pub low : pins_weight pins * coordinate_of (low_end axis core) ≤ pins_sum axis core pins
+  pub high : pins_sum axis core pins ≤ pins_weight pins * coordinate_of (high_end axis core)
 
 pub sum_in_box : (axis : Axis) (core : Core) (pins : List FixedPin) → IsBox axis core → IsSumInBox axis core pins
 sum_in_box axis core [] box = record { low = omega arith; high = omega arith }
@@ -33,15 +34,15 @@ sum_in_box axis core (pin ∷ pins) box =
     let sum = sum_by-cons (λ (p : FixedPin). p.weight * clamped axis core p) pin pins in
     let product = λ (at : ℕ). ap (λ (w : ℕ). w * at) weight ∙ add-mul pin.weight (pins_weight pins) at in
     record {
-      low = omega (arith, sum, rest.low, product (coordinate (low_end axis core)), mul-le-mul_left pin.weight (box.low pin));
-      high = omega (arith, sum, rest.high, product (coordinate (high_end axis core)), mul-le-mul_left pin.weight (box.high pin));
+      low = omega (arith, sum, rest.low, product (coordinate_of (low_end axis core)), mul-le-mul_left pin.weight (box.low pin));
+      high = omega (arith, sum, rest.high, product (coordinate_of (high_end axis core)), mul-le-mul_left pin.weight (box.high pin));
     }
 
 -- the sum of a light point's pins fits 128 bits
 sum_fits : (axis : Axis) (core : Core) (pins : List FixedPin) → IsBox axis core → pins_weight pins ≤ MOST_WEIGHT → pins_sum axis core pins < 2 ^ 128
 sum_fits axis core pins box light =
     let high = (sum_in_box axis core pins box).high in
-    let weights = mul-le-mul_right (coordinate (high_end axis core)) light in
+    let weights = mul-le-mul_right (coordinate_of (high_end axis core)) light in
     let places = mul-le-mul_left MOST_WEIGHT box.limit in
     omega arith
 

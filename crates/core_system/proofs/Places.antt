@@ -1,16 +1,18 @@
 -- Places on an axis: the core's range, what is clamped to it, and coordinates.
-use Rattle.std.proofs.Common.{◌≡◌, ◌^◌, ◌≤◌, refl, w64, to_z, of_z, arith}
+use Rattle.std.proofs.Common.{◌≡◌, ◌*◌, ◌≤◌, refl, w64, to_z, of_z, arith}
 use mir.Val.{SFits}
 use Rattle.std.specs.Prelude.{ℤ, pos, negsuc, nat_abs, ◌+ℤ◌, ◌≤ℤ◌}
 use Rattle.std.specs.Int.{int_min, int_max}
 use Rattle.std.proofs.lemmas.Int.{ints, clamps, to_z-of_z}
+use Rattle.book_text.specs.declared.decimal.TheConstants.{MOST_MICRO}
+use Rattle.book_text.specs.Coordinates.{coordinate_of}
 use Rattle.book_files.specs.Ranges.{IsInRange}
 use Rattle.book_design.specs.declared.parts.Core.{Core}
 use Rattle.book_design.specs.WellFormed.{IsGoodCore}
 use Rattle.net_model.specs.declared.parts.FixedPin.{FixedPin}
 use Rattle.core_system.specs.declared.axis.Axis.{Axis}
 use Rattle.core_system.specs.declared.axis.Axis.TheVariants.{X, Y}
-use Rattle.core_system.specs.CoreSystem.{low_end, high_end, place_of, coordinate, clamped}
+use Rattle.core_system.specs.CoreSystem.{low_end, high_end, place_of, clamped}
 
 -- the ends of a range, the lower one below the upper one
 record IsRange (bottom top : ℤ) : Type 0 where
@@ -40,17 +42,17 @@ absolute : (z : ℤ) → pos 0 ≤ℤ z → pos (nat_abs z) ≡ z
 absolute (pos n) h = refl
 absolute (negsuc n) h = absurd (omega (arith, ints))
 
-coordinate_is : (a : ℤ) → IsInRange a → pos (coordinate a) ≡ (a +ℤ pos (10 ^ 12))
-coordinate_is a h = let low = h.low in absolute (a +ℤ pos (10 ^ 12)) (omega (arith, ints))
+coordinate_is : (a : ℤ) → IsInRange a → pos (coordinate_of a) ≡ (a +ℤ pos MOST_MICRO)
+coordinate_is a h = let low = h.low in absolute (a +ℤ pos MOST_MICRO) (omega (arith, ints))
 
 -- coordinates keep the order of places
-coordinates_ordered : (a b : ℤ) → IsInRange a → IsInRange b → a ≤ℤ b → coordinate a ≤ coordinate b
+coordinates_ordered : (a b : ℤ) → IsInRange a → IsInRange b → a ≤ℤ b → coordinate_of a ≤ coordinate_of b
 coordinates_ordered a b in_a in_b less =
     let e = coordinate_is a in_a in
     let f = coordinate_is b in_b in
     omega (arith, ints)
 
-coordinate_fits : (a : ℤ) → IsInRange a → coordinate a ≤ 2000000000000
+coordinate_fits : (a : ℤ) → IsInRange a → coordinate_of a ≤ 2 * MOST_MICRO
 coordinate_fits a h =
     let high = h.high in
     let e = coordinate_is a h in
@@ -77,10 +79,10 @@ clamped_by axis core pin at top least bottom greatest fits_at fits_top fits_leas
 
 -- the box of each point, with the clamped pins in it
 pub record IsBox (axis : Axis) (core : Core) : Type 0 where
-  pub ordered : coordinate (low_end axis core) ≤ coordinate (high_end axis core)
-  pub limit : coordinate (high_end axis core) ≤ 2000000000000
-  pub low : (pin : FixedPin) → coordinate (low_end axis core) ≤ clamped axis core pin
-  pub high : (pin : FixedPin) → clamped axis core pin ≤ coordinate (high_end axis core)
+  pub ordered : coordinate_of (low_end axis core) ≤ coordinate_of (high_end axis core)
+  pub limit : coordinate_of (high_end axis core) ≤ 2 * MOST_MICRO
+  pub low : (pin : FixedPin) → coordinate_of (low_end axis core) ≤ clamped axis core pin
+  pub high : (pin : FixedPin) → clamped axis core pin ≤ coordinate_of (high_end axis core)
 
 pub core_box : (axis : Axis) (core : Core) → IsGoodCore core → IsBox axis core
 core_box axis core good =

@@ -11,7 +11,7 @@ mod project;
 
 pub use axis::Axis;
 pub use laws::chains_stay;
-pub use project::{SHIFT, core_system};
+pub use project::core_system;
 
 #[cfg(test)]
 mod tests;

@@ -2,28 +2,23 @@
 
 ghost use Rattle.std.specs.Prelude.{◌≡◌, ℕ, ◌*◌, ◌<◌, ◌≤◌, length, map, sum_by, IfOk};
 ghost use Rattle.pad_reach.specs.Chain.{HasChain};
-ghost use Rattle.book_files.specs.Ranges.{IsInRange};
 ghost use Rattle.book_design.specs.WellFormed.{IsGoodCore};
 ghost use Rattle.net_model.specs.Values.{point_at};
 ghost use Rattle.relax_system.specs.System.{joints_of as system_joints};
 ghost use Rattle.net_model.specs.Webs.{joints_of};
-ghost use Rattle.core_system.specs.CoreSystem.{low_end, high_end, place_of, coordinate, clamped};
+ghost use Rattle.core_system.specs.CoreSystem.{low_end, high_end, place_of, clamped};
 ghost use Rattle.core_system.specs.CoreSystem.{as_neighbour, point_of, system_of};
 
 use crate::axis::Axis;
 use book_design::Core;
-use book_text::Memory;
+use book_text::{Memory, Micro, coordinate_of};
 use net_model::{FixedPin, MOST_WEIGHT, Network};
 use relax_system::{Near, NearList, Point, Points, System};
 use std::alloc::Global;
 
-/// What is added to a place in millionths to make it a coordinate, so that none is negative: 1,000,000 units.
-pub const SHIFT: i64 = 1_000_000_000_000;
-
 /// The system of a network on an axis, where all points share the core.
 ///
-/// Coordinates are millionths shifted by 1,000,000,000,000. The box of each point is the core's
-/// range. The fixed pins of a point are its constants, each clamped to that range. The chains of the
+/// The box of each point is the core's range, as coordinates. The fixed pins of a point are its constants, each clamped to that range. The chains of the
 /// network are the system's. It takes linear time, and Memory is the only refusal.
 pub fn core_system(alloc: Global, network: &Network, axis: Axis) -> Result<System, Memory>
     requires chains { (p : ℕ) → p < length network.now.points
@@ -49,8 +44,8 @@ fn point_of(alloc: Global, network: &Network, axis: Axis, p: u32) -> Result<Poin
     let near = neighbours(alloc, network.near(p))?;
     let (anchor, anchored) = constants(axis, core, network.pins(p));
     Ok(Point {
-        lo: coordinate(low_end(axis, core)),
-        hi: coordinate(high_end(axis, core)),
+        lo: coordinate_of(Micro(low_end(axis, core))),
+        hi: coordinate_of(Micro(high_end(axis, core))),
         near,
         anchor,
         anchored,
@@ -87,14 +82,14 @@ fn constants(axis: Axis, core: Core, pins: &[FixedPin]) -> (u64, u128)
     (anchor, anchored)
 }
 
-/// A fixed pin's place on the axis as a coordinate, clamped to the core's range.
+/// The coordinate of a fixed pin's place on the axis, clamped to the core's range.
 fn clamped(axis: Axis, core: Core, pin: &FixedPin) -> u64
     requires { IsGoodCore core }
     ensures { result ≡ clamped axis core pin.now }
 {
     let low = low_end(axis, core);
     let high = high_end(axis, core);
-    coordinate(place_of(axis, pin).min(high).max(low))
+    coordinate_of(Micro(place_of(axis, pin).min(high).max(low)))
 }
 
 /// Where a fixed pin stands on the axis.
@@ -125,12 +120,4 @@ fn high_end(axis: Axis, core: Core) -> i64
         Axis::X => core.xhi,
         Axis::Y => core.yhi,
     }
-}
-
-/// Millionths as a coordinate.
-fn coordinate(at: i64) -> u64
-    requires { IsInRange at }
-    ensures { result ≡ coordinate at }
-{
-    (at + SHIFT) as u64
 }

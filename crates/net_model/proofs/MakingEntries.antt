@@ -5,6 +5,7 @@ use Rattle.std.specs.List.{filter_map, range_with_len, cons_option, AllByRecursi
 use Rattle.std.proofs.lemmas.Bool.{eqb-true, eqb-false}
 use Rattle.std.proofs.lemmas.List.Elements.{All-nil, All-cons, All-append}
 use Rattle.std.proofs.lemmas.List.Sums.{sum_by-cons, sum_by-append}
+use Rattle.book_design.specs.declared.rules.TheConstants.{MOST_NET_WEIGHT}
 use Rattle.book_design.specs.declared.parts.Pin.{Pin}
 use Rattle.book_design.specs.Values.{NetValue, DesignValue}
 use Rattle.book_design.specs.Points.{is_movable, movable_before, IsNodeOf}
@@ -87,7 +88,7 @@ nears_entries design (net ∷ nets) i =
     All-append (IsEntry (length (point_nodes design))) (nears_in design i net) (nears_by design nets i) (net_by_tests design net i (share net) (eqb (share net) 0) (has_node net i) refl) (nears_entries design nets i)
 
 -- the nets together give a point no more than that of the greatest weight each
-nets_bound : (design : DesignValue) (nets : List NetValue) (i n : ℕ) → is_movable (node_at design i) ≡ true → AllByRecursion (IsGoodNet n) nets → weight_sum (nears_by design nets i) + pin_sum (pins_by design nets i) ≤ length nets * (NET_WEIGHT * 65535)
+nets_bound : (design : DesignValue) (nets : List NetValue) (i n : ℕ) → is_movable (node_at design i) ≡ true → AllByRecursion (IsGoodNet n) nets → weight_sum (nears_by design nets i) + pin_sum (pins_by design nets i) ≤ length nets * (NET_WEIGHT * MOST_NET_WEIGHT)
 nets_bound design [] i n movable good = omega arith
 nets_bound design (net ∷ nets) i n movable good =
     omega (

@@ -9,6 +9,7 @@ use Rattle.std.proofs.lemmas.Int.{ints}
 use Rattle.std.proofs.lemmas.List.Elements.{All-get_or, All-from_recursion, recursion_from_All, All-append, All-nil}
 use Rattle.std.proofs.lemmas.List.FromFn.{length-map-range_with_len, get_or-map-range_with_len}
 use Rattle.std.proofs.lemmas.List.Sums.{count_by-le-length}
+use Rattle.book_design.specs.declared.rules.TheConstants.{MOST_NODES}
 use Rattle.book_design.specs.declared.parts.Pin.{Pin}
 use Rattle.book_design.specs.Values.{NetValue, DesignValue}
 use Rattle.book_design.specs.Points.{is_movable, site_count}
@@ -88,7 +89,7 @@ nets_good design (net ∷ nets) i h good =
 
 -- ---- the points
 
-pub few_points : (design : DesignValue) → IsDesign design → length (point_nodes design) ≤ 2 ^ 20
+pub few_points : (design : DesignValue) → IsDesign design → length (point_nodes design) ≤ MOST_NODES
 few_points design h =
     omega (arith, count_movable design.nodes (length design.nodes) (omega arith), count_by-le-length is_movable (take (length design.nodes) design.nodes), length-take (length design.nodes) design.nodes, h.few_nodes)
 

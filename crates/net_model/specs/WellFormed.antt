@@ -2,6 +2,7 @@
 use Rattle.std.specs.Prelude.{◌≢◌, ℕ, ◌*◌, ◌^◌, ◌<◌, ◌≤◌, length, map, pos, neg_ℤ, ◌≤ℤ◌}
 use Rattle.std.specs.List.{AllByRecursion}
 use Rattle.std.specs.List.Sorted.{IsStrictlyIncreasing}
+use Rattle.book_design.specs.declared.rules.TheConstants.{MOST_NODES}
 use Rattle.book_design.specs.WellFormed.{IsGoodCore}
 use Rattle.net_model.specs.declared.limits.TheConstants.{MOST_WEIGHT}
 use Rattle.net_model.specs.declared.parts.Near.{Near}
@@ -32,6 +33,6 @@ pub record IsGoodPoint (points p : ℕ) (point : PointValue) : Type 0 where
   pub area : point.area ≤ 10 ^ 12
 
 pub record IsNet (network : NetworkValue) : Type 0 where
-  pub few : length network.points ≤ 2 ^ 20
+  pub few : length network.points ≤ MOST_NODES
   pub each : (p : ℕ) → p < length network.points → IsGoodPoint (length network.points) p (point_at network.points p)
   pub core : IsGoodCore network.core

@@ -2,6 +2,7 @@
 
 ghost use Rattle.std.specs.Prelude.{◌≡◌, ◌-◌, ◌*◌, ◌/◌, ◌≤◌, nat_lt, [], length, vec_len};
 ghost use Rattle.std.specs.Prelude.{if◌then◌else◌, IfOk, OnOk};
+ghost use Rattle.book_design.specs.declared.rules.TheConstants.{MOST_NET_WEIGHT};
 ghost use Rattle.net_model.specs.Clique.{first_pins};
 ghost use Rattle.net_model.specs.Forms.Steps.{IsUnmarked, AreMarked, AreAtNodes};
 
@@ -77,7 +78,7 @@ fn unmark(seen: &mut [bool], pins: &[Pin])
 /// The weight of each pair of a net's nodes, by the net's weight and the number of its distinct
 /// nodes.
 pub(crate) fn share(weight: u32, degree: usize) -> u64
-    requires { weight ≤ 65535 }
+    requires { weight ≤ MOST_NET_WEIGHT }
     ensures { result ≡ (if nat_lt 1 degree then NET_WEIGHT * weight / (degree - 1) else 0) }
 {
     if degree > 1 {

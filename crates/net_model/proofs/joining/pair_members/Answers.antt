@@ -15,7 +15,7 @@ bounds-points-number c =
     let design = c.args.design.now in
     let pin = pin_at c.args.members.now c.loop-pin.pin-index in
     let good : IsGoodPin (length design.nodes) pin = c.requires.good c.loop-pin.pin-index _ c.loop-pin-test.true in
-    omega (arith, c.loop-pin.auto.points, c.requires.counted, point_inside design pin.node _ good.there (has_point design pin.node _ c.in-Some.ensures))
+    omega (arith, c.loop-pin.auto.points, c.requires.counted, point_inside design pin.node _ good.there (has_point design pin.node _ c.in-Some.ensures.point))
 
 pub loop-pin-preserved : goal.loop-pin-preserved
 loop-pin-preserved c =
@@ -28,12 +28,12 @@ loop-pin-preserved c =
     elim c.match-point_of.branch [
       | in-Some+in_ok-pair_point w ↦
           paired_entry design c.args.weight members c.loop-pin.pin-index _ start points _ _ _ c.loop-pin-test.true good.there c.requires.counted
-          (has_point design pin.node _ w.in-Some.ensures) c.requires.distinct w.in_ok-pair_point.ensures w.points-is c.loop-pin.auto.points c.loop-pin.invariant
+          (has_point design pin.node _ w.in-Some.ensures.point) c.requires.distinct w.in_ok-pair_point.ensures w.points-is c.loop-pin.auto.points c.loop-pin.invariant
       | in_default w ↦
           let P : List PointValue → Type 0 = ArePairedAt design c.args.weight members (take (c.loop-pin.pin-index + 1) members) (point_values start) in
           subst P (sym (ap point_values w.points-is))
           (paired_fixed design c.args.weight members c.loop-pin.pin-index (point_values start) (point_values points) c.loop-pin-test.true
-          (has_no_point design.nodes pin.node w.in_default.ensures) c.loop-pin.invariant)
+          (has_no_point design.nodes pin.node w.in_default.ensures.point) c.loop-pin.invariant)
     ]
 
 pub returns : goal.returns
