@@ -1,2 +1,2 @@
 mod Joins
-mod Sweeping
+pub mod Sweeping

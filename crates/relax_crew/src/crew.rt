@@ -133,6 +133,7 @@ fn take_turn<D: Direction, G: Gate>(
 }
 
 /// What one seat does: it relaxes its range once, calling the gate after each point, settles its range, and settles all points.
+#[tactic(auto, using(crate::proofs::Sweeping::swept_on))]
 fn work<D: Direction, L: Ledger, G: Gate>(
     table: &SideTable<'_, D>,
     seat: &mut SideSeat<D>,

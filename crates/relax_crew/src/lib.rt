@@ -1,8 +1,10 @@
 //! A crew of seats at one racing table: the least and the greatest vector of a system by 1 to 64 threads.
 //!
 //! What comes in is a system with a point; what goes out is one seat that has seen the extremal vector, and how many words
-//! it moved. The crew stands on the racing tables and before the levels. What the answered seat has seen is the same for
+//! it moved. The crew stands on the racing tables and before the top call. What the answered seat has seen is the same for
 //! any number of seats and whatever the interleaving, since there is exactly one least and one greatest vector.
+//!
+//! The contract: `least` meets `IsLeast` and `greatest` meets `IsGreatest`, each with as many seats as are asked for.
 //!
 //! The table and all seats are made first. After that nothing can be refused, and nothing waits but the end of the crew for
 //! its threads.
