@@ -108,18 +108,18 @@ level_chain axis network regions mids p [] net there chain =
     ([], anchored_by axis network regions mids p there (omega arith))
 level_chain axis network regions mids p (q ∷ rest) net there chain =
     by_cases (entry_of network p q there chain.0) (level_chain axis network regions mids q rest net (there_if_near network p q net there chain.0) chain.1) where
-  own : List Near
-  own = (point_at network.points p).near
+      own : List Near
+      own = (point_at network.points p).near
 
-  by_entry : (k : ℕ) → k < length (point_at network.points p).near → (get_or (point_at network.points p).near k no_near).point ≡ q → HasChain (system_joints (level_system axis network regions mids)) q
-      → (b : Bool) → is_inside regions p (get_or (point_at network.points p).near k no_near) ≡ b → HasChain (system_joints (level_system axis network regions mids)) p
-  by_entry k k_in is onward true here = (q ∷ onward.0, (inside_stays axis network regions mids p k q there k_in is here, onward.1))
-  by_entry k k_in is onward false elsewhere =
-      let some = outside_weighs network regions p k net there k_in elsewhere in
-      ([], anchored_by axis network regions mids p there (omega arith))
+      by_entry : (k : ℕ) → k < length (point_at network.points p).near → (get_or (point_at network.points p).near k no_near).point ≡ q → HasChain (system_joints (level_system axis network regions mids)) q
+          → (b : Bool) → is_inside regions p (get_or (point_at network.points p).near k no_near) ≡ b → HasChain (system_joints (level_system axis network regions mids)) p
+      by_entry k k_in is onward true here = (q ∷ onward.0, (inside_stays axis network regions mids p k q there k_in is here, onward.1))
+      by_entry k k_in is onward false elsewhere =
+          let some = outside_weighs network regions p k net there k_in elsewhere in
+          ([], anchored_by axis network regions mids p there (omega arith))
 
-  by_cases : ((k : ℕ) × (k < length (point_at network.points p).near) × ((get_or (point_at network.points p).near k no_near).point ≡ q)) → HasChain (system_joints (level_system axis network regions mids)) q → HasChain (system_joints (level_system axis network regions mids)) p
-  by_cases entry onward = by_entry entry.0 entry.1 entry.2 onward (is_inside regions p (get_or (point_at network.points p).near entry.0 no_near)) refl
+      by_cases : ((k : ℕ) × (k < length (point_at network.points p).near) × ((get_or (point_at network.points p).near k no_near).point ≡ q)) → HasChain (system_joints (level_system axis network regions mids)) q → HasChain (system_joints (level_system axis network regions mids)) p
+      by_cases entry onward = by_entry entry.0 entry.1 entry.2 onward (is_inside regions p (get_or (point_at network.points p).near entry.0 no_near)) refl
 
 pub chains_stay : (axis : Axis) (network : NetworkValue) (regions : List Region) (mids : List ℕ) (p : ℕ) → IsNet network → p < length network.points → HasChain (joints_of network) p → HasChain (system_joints (level_system axis network regions mids)) p
 chains_stay axis network regions mids p net there chain = level_chain axis network regions mids p chain.0 net there chain.1

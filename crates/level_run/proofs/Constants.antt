@@ -45,12 +45,12 @@ pulls w at low high (x ∷ xs) below above =
 pub near_pulls : (axis : Axis) (regions : List Region) (mids : List ℕ) (region : Region) (near : List Near) → IsRange axis region → IsPull (sum_by (λ n. n.weight) near) (low_end axis region) (high_end axis region) (near_pull axis regions mids region near)
 near_pulls axis regions mids region near range =
     pulls (λ (n : Near). n.weight) (λ (n : Near). clamped axis region (stand_of axis regions mids n.point)) (low_end axis region) (high_end axis region) near
-        (λ n. clamped_low axis region (stand_of axis regions mids n.point)) (λ n. clamped_high axis region (stand_of axis regions mids n.point) range)
+    (λ n. clamped_low axis region (stand_of axis regions mids n.point)) (λ n. clamped_high axis region (stand_of axis regions mids n.point) range)
 
 pub pin_pulls : (axis : Axis) (region : Region) (pins : List FixedPin) → IsRange axis region → IsPull (sum_by (λ pin. pin.weight) pins) (low_end axis region) (high_end axis region) (pin_pull axis region pins)
 pin_pulls axis region pins range =
     pulls (λ (pin : FixedPin). pin.weight) (λ (pin : FixedPin). clamped axis region (coordinate (place_of axis pin))) (low_end axis region) (high_end axis region) pins
-        (λ pin. clamped_low axis region (coordinate (place_of axis pin))) (λ pin. clamped_high axis region (coordinate (place_of axis pin)) range)
+    (λ pin. clamped_low axis region (coordinate (place_of axis pin))) (λ pin. clamped_high axis region (coordinate (place_of axis pin)) range)
 
 pub neighbours_weight : (near : List Near) → near_weight (map as_neighbour near) ≡ sum_by (λ near. near.weight) near
 neighbours_weight [] = refl

@@ -45,5 +45,5 @@ no_mids_used axis network mids other net homes =
     let many = length_system axis network regions mids in
     let also = length_system axis network regions other in
     ext_get_or no_point (level_system axis network regions mids) (level_system axis network regions other) (omega arith) (λ p inside.
-        let there : p < length network.points = omega arith in
-        system_at axis network regions mids p there ∙ same_point axis network (core_region network) mids other p net homes there ∙ sym (system_at axis network regions other p there))
+    let there : p < length network.points = omega arith in
+    system_at axis network regions mids p there ∙ same_point axis network (core_region network) mids other p net homes there ∙ sym (system_at axis network regions other p there))

@@ -98,7 +98,7 @@ one_level_more network count levels next d is step = record {
   by_cases : (k : ℕ) (e : Level) → (k < count) ⊎ (count ≤ k) → k < count + 1 → IsNext network (get_or (levels ++ next ∷ []) k e) (get_or (levels ++ next ∷ []) (k + 1) e)
   by_cases k e (inl before) inside =
       subst (λ (a : Level). IsNext network a (get_or (levels ++ next ∷ []) (k + 1) e)) (sym (own k e inside))
-          (subst (λ (b : Level). IsNext network (get_or levels k e) b) (sym (own (k + 1) e (omega arith))) (is.next k e before))
+      (subst (λ (b : Level). IsNext network (get_or levels k e) b) (sym (own (k + 1) e (omega arith))) (is.next k e before))
   by_cases k e (inr at) inside =
       let same : k ≡ count = omega arith in
       let last : get_or (levels ++ next ∷ []) (k + 1) e ≡ next = get_or_push levels next e (k + 1) (omega (arith, many)) in

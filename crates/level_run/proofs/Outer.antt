@@ -35,7 +35,7 @@ pub are_points : (n : ℕ) (regions : List Region) (k : ℕ) (d : Region) → Ha
 are_points n regions k d homes inside =
     let points = (get_or regions k no_region).points in
     subst (λ (r : Region). All (λ p. p < n) r.points) (sym (at_end regions k d inside))
-        (All-weaker (Contains points) (λ (p : ℕ). p < n) (λ p among. homes.bounded p k inside among) points (All-contains_itself points))
+    (All-weaker (Contains points) (λ (p : ℕ). p < n) (λ p among. homes.bounded p k inside among) points (All-contains_itself points))
 
 -- after the region k, the homes of the points of all regions up to it are right
 pub homes_more : (n : ℕ) (regions : List Region) (k : ℕ) (d : Region) (old new : List ℕ) → HaveHomes n regions → k < length regions
@@ -49,9 +49,9 @@ homes_more n regions k d old new homes inside before written p there below = by_
       written p ∙ ap (λ (b : Bool). cond b k (get_or old p 0)) e ∙ sym here
   by_cases (inr e) =
       let other : home_of regions p ≡ k → ⊥ = λ same.
-          let at = passes_at_first (has_point p) regions d (omega arith) in
-          let also : has_point p (get_or regions (home_of regions p) d) ≡ false = ap (λ (j : ℕ). has_point p (get_or regions j d)) same ∙ e in
-          cc in
+      let at = passes_at_first (has_point p) regions d (omega arith) in
+      let also : has_point p (get_or regions (home_of regions p) d) ≡ false = ap (λ (j : ℕ). has_point p (get_or regions j d)) same ∙ e in
+      cc in
       written p ∙ ap (λ (b : Bool). cond b k (get_or old p 0)) e ∙ before p there (omega (arith, other))
 
 -- ---- neighbours
@@ -65,8 +65,8 @@ pub by_homes : (points : ℕ) (regions : List Region) (homes : List ℕ) (p : �
     → filter (λ n. eqb (slice_index homes n.point) (slice_index homes p)) near ≡ inside regions p near
 by_homes points regions homes p near right there all =
     filter_same (λ (n : Near). eqb (slice_index homes n.point) (slice_index homes p)) (is_inside regions p) near
-        (recursion_from_All (λ (n : Near). eqb (slice_index homes n.point) (slice_index homes p) ≡ is_inside regions p n) near
-            (λ k d in_near. ap (λ (h : ℕ). eqb h (slice_index homes p)) (right.each (get_or near k d).point (all k d in_near)) ∙ ap (eqb (home_of regions (get_or near k d).point)) (right.each p there)))
+    (recursion_from_All (λ (n : Near). eqb (slice_index homes n.point) (slice_index homes p) ≡ is_inside regions p n) near
+    (λ k d in_near. ap (λ (h : ℕ). eqb h (slice_index homes p)) (right.each (get_or near k d).point (all k d in_near)) ∙ ap (eqb (home_of regions (get_or near k d).point)) (right.each p there)))
 
 -- ---- the sums over neighbours in other regions
 

@@ -35,7 +35,10 @@ pub record IsLevel (network : NetworkValue) (over : List Region) (xs ys : List â
 -- the core with all points
 abbrev pub core_region : NetworkValue â†’ Region
 core_region network = record {
-  xlo = coordinate network.core.xlo; xhi = coordinate network.core.xhi; ylo = coordinate network.core.ylo; yhi = coordinate network.core.yhi;
+  xlo = coordinate network.core.xlo;
+  xhi = coordinate network.core.xhi;
+  ylo = coordinate network.core.ylo;
+  yhi = coordinate network.core.yhi;
   points = range_with_len 0 (length network.points);
 }
 

@@ -56,7 +56,12 @@ pub fn levels<R: Threads + Sync, G: Gate>(
     reach_leads();
     let _reach = reach;
     let _points = network.points();
-    levels_by(alloc, &Crew::new(rt, gate, options.seats), network, options.levels)
+    levels_by(
+        alloc,
+        &Crew::new(rt, gate, options.seats),
+        network,
+        options.levels,
+    )
 }
 
 /// The levels, by any solver.
@@ -76,7 +81,13 @@ fn levels_by<R: Threads + Sync, G: Gate>(
     let mut levels = Levels::new(alloc);
     levels.push(first_level(alloc, solver, network)?)?;
     for n in 0..count {
-        let next = next_level(alloc, solver, network, &areas, &levels.as_slice()[n as usize])?;
+        let next = next_level(
+            alloc,
+            solver,
+            network,
+            &areas,
+            &levels.as_slice()[n as usize],
+        )?;
         levels.push(next)?;
     }
     Ok(levels)

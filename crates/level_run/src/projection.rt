@@ -133,7 +133,12 @@ fn level_point(
 }
 
 /// The neighbours in a point's own region, as those of a system's point.
-fn variables(alloc: Global, homes: &[usize], p: u32, near: &[net_model::Near]) -> Result<NearList, Memory>
+fn variables(
+    alloc: Global,
+    homes: &[usize],
+    p: u32,
+    near: &[net_model::Near],
+) -> Result<NearList, Memory>
     requires there { p < length homes.now }
     requires points { All (λ n. n.point < length homes.now) near.now }
     ensures { IfOk result (λ list. list ≡ map as_neighbour (filter (λ n. slice_index homes.now n.point == slice_index homes.now p) near.now)) }
@@ -195,7 +200,8 @@ fn pin_constants(axis: Axis, region: &Region, pins: &[FixedPin]) -> (u64, u128)
     let mut pull = 0;
     for pin in pins {
         anchor += pin.weight;
-        pull += u128::from(pin.weight) * u128::from(clamped(axis, region, coordinate(place_of(axis, pin))));
+        pull += u128::from(pin.weight)
+            * u128::from(clamped(axis, region, coordinate(place_of(axis, pin))));
     }
     (anchor, pull)
 }

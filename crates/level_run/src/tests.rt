@@ -7,7 +7,6 @@ use area_cut::whole;
 use book_design::{Design, join_design};
 use book_files::{read_nets, read_nodes, read_pl, read_scl, read_wts};
 use book_outer::OpenGate;
-
 use net_model::network;
 use pad_reach::reach;
 use relax_system::{Near, System};
@@ -79,6 +78,9 @@ const BLOCK: Texts = Texts {
 
 /// What the texts make together.
 fn design(rt: &impl Abort, alloc: Global, texts: Texts) -> Design<'static> {
+    assert!(rt; texts.nodes.len() <= 1_000);
+    assert!(rt; texts.nets.len() <= 1_000);
+    assert!(rt; texts.scl.len() <= 1_000);
     let Ok(nodes) = read_nodes(alloc, texts.nodes) else {
         panic!(rt; "the nodes are not read");
     };

@@ -21,6 +21,6 @@ solved-requires-clause-shares g c = λ κs lives.
     let network = c.args.network.now in
     let core = c.core-core.ensures.core in
     let is : c.in_ok-regions.regions ≡ core_region network ∷ [] = c.in_ok-regions.ensures.region ∙ same_region c.core_end.result c.core_end-2.result c.core_end-3.result c.core_end-4.result c.points.result
-        (coordinate network.core.xlo) (coordinate network.core.xhi) (coordinate network.core.ylo) (coordinate network.core.yhi) (length network.points)
-        (c.core_end.ensures ∙ ap coordinate (to_z-of_z w64 c.core-core.result.xlo (search rules)) ∙ ap (λ (k : Core). coordinate k.xlo) core) (c.core_end-2.ensures ∙ ap coordinate (to_z-of_z w64 c.core-core.result.xhi (search rules)) ∙ ap (λ (k : Core). coordinate k.xhi) core) (c.core_end-3.ensures ∙ ap coordinate (to_z-of_z w64 c.core-core.result.ylo (search rules)) ∙ ap (λ (k : Core). coordinate k.ylo) core) (c.core_end-4.ensures ∙ ap coordinate (to_z-of_z w64 c.core-core.result.yhi (search rules)) ∙ ap (λ (k : Core). coordinate k.yhi) core) c.points.ensures.points in
+    (coordinate network.core.xlo) (coordinate network.core.xhi) (coordinate network.core.ylo) (coordinate network.core.yhi) (length network.points)
+    (c.core_end.ensures ∙ ap coordinate (to_z-of_z w64 c.core-core.result.xlo (search rules)) ∙ ap (λ (k : Core). coordinate k.xlo) core) (c.core_end-2.ensures ∙ ap coordinate (to_z-of_z w64 c.core-core.result.xhi (search rules)) ∙ ap (λ (k : Core). coordinate k.xhi) core) (c.core_end-3.ensures ∙ ap coordinate (to_z-of_z w64 c.core-core.result.ylo (search rules)) ∙ ap (λ (k : Core). coordinate k.ylo) core) (c.core_end-4.ensures ∙ ap coordinate (to_z-of_z w64 c.core-core.result.yhi (search rules)) ∙ ap (λ (k : Core). coordinate k.yhi) core) c.points.ensures.points in
     subst (λ (rs : List Region). AreShares (length network.points) 2000000000000 rs) (sym is) (core_shares network c.core-core.ensures.valid)

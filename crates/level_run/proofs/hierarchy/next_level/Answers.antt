@@ -10,4 +10,4 @@ cut-requires-clause-fits g c = subst (λ (items : List ℕ). sum items < 2 ^ 64)
 pub solved-requires-clause-shares : goal.solved-requires-clause-shares
 solved-requires-clause-shares g c = λ κs lives.
     subst (λ (rs : List Region). AreShares (length c.args.network.now.points) 2000000000000 rs) (sym c.in_ok-regions.ensures.parts)
-        (c.parts_share.ensures (length c.args.network.now.points) 2000000000000 c.args.areas.now c.as_slice-xs.result.now c.as_slice-ys.result.now c.args.level.now.regions c.requires.sane.shares)
+    (c.parts_share.ensures (length c.args.network.now.points) 2000000000000 c.args.areas.now c.as_slice-xs.result.now c.as_slice-ys.result.now c.args.level.now.regions c.requires.sane.shares)

@@ -17,8 +17,8 @@ overflow_add-result c =
     let regions = c.args.regions.now in
     let own = point_at c.args.network.now.points c.args.p in
     let outer = c.outer_constants-outer.ensures.anchor
-        ∙ ap (λ (rs : List Region). sum_by (λ (n : Near). n.weight) (outside rs c.args.p c.near-2.result.now)) c.as_slice-regions.ensures.regions
-        ∙ ap (λ (ns : List Near). sum_by (λ (n : Near). n.weight) (outside regions c.args.p ns)) c.near-2.ensures.near in
+    ∙ ap (λ (rs : List Region). sum_by (λ (n : Near). n.weight) (outside rs c.args.p c.near-2.result.now)) c.as_slice-regions.ensures.regions
+    ∙ ap (λ (ns : List Near). sum_by (λ (n : Near). n.weight) (outside regions c.args.p ns)) c.near-2.ensures.near in
     let fixed = c.pin_constants-fixed.ensures.anchor ∙ ap (sum_by (λ (pin : FixedPin). pin.weight)) c.pins.ensures.pins in
     let split = weights_split regions c.args.p own.near in
     let light = (c.pins.ensures.valid.each c.args.p c.requires.there).light in
@@ -30,8 +30,8 @@ overflow_add-result-2 c =
     let own = point_at c.args.network.now.points c.args.p in
     let region = region_of regions c.args.p in
     let outer = c.outer_constants-outer.ensures.pull
-        ∙ ap (λ (rs : List Region). near_pull c.args.axis rs c.args.mids.now (region_of rs c.args.p) (outside rs c.args.p c.near-2.result.now)) c.as_slice-regions.ensures.regions
-        ∙ ap (λ (ns : List Near). near_pull c.args.axis regions c.args.mids.now region (outside regions c.args.p ns)) c.near-2.ensures.near in
+    ∙ ap (λ (rs : List Region). near_pull c.args.axis rs c.args.mids.now (region_of rs c.args.p) (outside rs c.args.p c.near-2.result.now)) c.as_slice-regions.ensures.regions
+    ∙ ap (λ (ns : List Near). near_pull c.args.axis regions c.args.mids.now region (outside regions c.args.p ns)) c.near-2.ensures.near in
     let read : c.index-regions-homes.result ≡ get_or regions (get_or c.args.homes.now c.args.p 0) c.index-regions-homes.result = c.index-regions-homes.is ∙ ap (λ (rs : List Region). get_or rs (get_or c.args.homes.now c.args.p 0) c.index-regions-homes.result) c.as_slice-regions.ensures.regions in
     let here = region_is (length c.args.network.now.points) regions c.args.homes.now c.args.p c.index-regions-homes.result c.requires.homes c.requires.there read in
     let fixed = c.pin_constants-fixed.ensures.pull ∙ ap (pin_pull c.args.axis c.index-regions-homes.result) c.pins.ensures.pins ∙ ap (λ (r : Region). pin_pull c.args.axis r own.pins) here in
@@ -55,14 +55,14 @@ returns c =
     let here = region_is (length network.points) regions c.args.homes.now c.args.p c.index-regions-homes.result c.requires.homes c.requires.there read in
     let there : All (λ n. n.point < length network.points) own.near = All-weaker (IsGoodNear (length network.points) c.args.p) (λ (n : Near). n.point < length network.points) (λ n g. g.there) own.near (All-from_recursion (IsGoodNear (length network.points) c.args.p) own.near good.near) in
     let near = c.in_ok-near.ensures ∙ ap (λ (ns : List Near). map as_neighbour (filter (λ n. eqb (slice_index c.args.homes.now n.point) (slice_index c.args.homes.now c.args.p)) ns)) c.near.ensures.near
-        ∙ ap (map as_neighbour) (by_homes (length network.points) regions c.args.homes.now c.args.p own.near c.requires.homes c.requires.there there) in
+    ∙ ap (map as_neighbour) (by_homes (length network.points) regions c.args.homes.now c.args.p own.near c.requires.homes c.requires.there there) in
     let outer = c.outer_constants-outer.ensures.anchor
-        ∙ ap (λ (rs : List Region). sum_by (λ (n : Near). n.weight) (outside rs c.args.p c.near-2.result.now)) c.as_slice-regions.ensures.regions
-        ∙ ap (λ (ns : List Near). sum_by (λ (n : Near). n.weight) (outside regions c.args.p ns)) c.near-2.ensures.near in
+    ∙ ap (λ (rs : List Region). sum_by (λ (n : Near). n.weight) (outside rs c.args.p c.near-2.result.now)) c.as_slice-regions.ensures.regions
+    ∙ ap (λ (ns : List Near). sum_by (λ (n : Near). n.weight) (outside regions c.args.p ns)) c.near-2.ensures.near in
     let outer_sum = c.outer_constants-outer.ensures.pull
-        ∙ ap (λ (rs : List Region). near_pull c.args.axis rs c.args.mids.now (region_of rs c.args.p) (outside rs c.args.p c.near-2.result.now)) c.as_slice-regions.ensures.regions
-        ∙ ap (λ (ns : List Near). near_pull c.args.axis regions c.args.mids.now region (outside regions c.args.p ns)) c.near-2.ensures.near in
+    ∙ ap (λ (rs : List Region). near_pull c.args.axis rs c.args.mids.now (region_of rs c.args.p) (outside rs c.args.p c.near-2.result.now)) c.as_slice-regions.ensures.regions
+    ∙ ap (λ (ns : List Near). near_pull c.args.axis regions c.args.mids.now region (outside regions c.args.p ns)) c.near-2.ensures.near in
     let fixed = c.pin_constants-fixed.ensures.anchor ∙ ap (sum_by (λ (pin : FixedPin). pin.weight)) c.pins.ensures.pins in
     let fixed_sum = c.pin_constants-fixed.ensures.pull ∙ ap (pin_pull c.args.axis c.index-regions-homes.result) c.pins.ensures.pins in
     is_level_point c.args.axis network regions c.args.mids.now c.args.p c.low.result c.high.result c.outer_constants-outer.result.0 c.outer_constants-outer.result.1 c.pin_constants-fixed.result.0 c.pin_constants-fixed.result.1 c.in_ok-near.near c.index-regions-homes.result
-        here c.low.ensures c.high.ensures near outer outer_sum fixed fixed_sum
+    here c.low.ensures c.high.ensures near outer outer_sum fixed fixed_sum

@@ -50,18 +50,18 @@ loop-entry-preserved c =
     let weight_so_far = c.loop-entry.invariant.anchor in
     let pull_so_far = c.loop-entry.invariant.pull in
     elim c.if-other-home.branch [
-    | then-other-home w ↦
-        let elsewhere = outside_by (length c.args.mids.now) regions c.args.homes.now c.args.p x c.requires.homes c.requires.there x_there w.if-other-home.true in
-        let weight = outer_weight regions c.args.p near i no_near (omega arith) elsewhere in
-        let pull = outer_pull c.args.axis regions c.args.mids.now c.args.p near i no_near (omega arith) elsewhere in
-        let place = stands_at c.args.axis (length c.args.mids.now) regions c.args.homes.now c.args.mids.now c.args.p x.point c.index-regions-home.result w.index-regions-other.result w.clamped-stand.result w.clamped.result c.requires.homes c.requires.there x_there c.index-regions-home.is w.index-regions-other.is w.clamped-stand.ensures w.clamped.ensures in
-        let product : w.from.result * w.from-then-other-home.result ≡ x.weight * clamped c.args.axis (region_of regions c.args.p) (stand_of c.args.axis regions c.args.mids.now x.point) = ap (λ (v : ℕ). v * w.from-then-other-home.result) w.from.ensures ∙ ap (λ (a : ℕ). x.weight * a) (w.from-then-other-home.ensures ∙ place) in
-        record { anchor = omega (arith, w.anchor-is); pull = omega (arith, w.pull-is) }
-    | else-other-home w ↦
-        let here = inside_by (length c.args.mids.now) regions c.args.homes.now c.args.p x c.requires.homes c.requires.there x_there w.if-other-home.false in
-        let same = outer_skips regions c.args.p near i no_near (omega arith) here in
-        record {
-          anchor = w.anchor-is ∙ weight_so_far ∙ sym (ap (sum_by (λ (n : Near). n.weight)) same);
-          pull = w.pull-is ∙ pull_so_far ∙ sym (ap (near_pull c.args.axis regions c.args.mids.now (region_of regions c.args.p)) same);
-        }
+      | then-other-home w ↦
+          let elsewhere = outside_by (length c.args.mids.now) regions c.args.homes.now c.args.p x c.requires.homes c.requires.there x_there w.if-other-home.true in
+          let weight = outer_weight regions c.args.p near i no_near (omega arith) elsewhere in
+          let pull = outer_pull c.args.axis regions c.args.mids.now c.args.p near i no_near (omega arith) elsewhere in
+          let place = stands_at c.args.axis (length c.args.mids.now) regions c.args.homes.now c.args.mids.now c.args.p x.point c.index-regions-home.result w.index-regions-other.result w.clamped-stand.result w.clamped.result c.requires.homes c.requires.there x_there c.index-regions-home.is w.index-regions-other.is w.clamped-stand.ensures w.clamped.ensures in
+          let product : w.from.result * w.from-then-other-home.result ≡ x.weight * clamped c.args.axis (region_of regions c.args.p) (stand_of c.args.axis regions c.args.mids.now x.point) = ap (λ (v : ℕ). v * w.from-then-other-home.result) w.from.ensures ∙ ap (λ (a : ℕ). x.weight * a) (w.from-then-other-home.ensures ∙ place) in
+          record { anchor = omega (arith, w.anchor-is); pull = omega (arith, w.pull-is) }
+      | else-other-home w ↦
+          let here = inside_by (length c.args.mids.now) regions c.args.homes.now c.args.p x c.requires.homes c.requires.there x_there w.if-other-home.false in
+          let same = outer_skips regions c.args.p near i no_near (omega arith) here in
+          record {
+            anchor = w.anchor-is ∙ weight_so_far ∙ sym (ap (sum_by (λ (n : Near). n.weight)) same);
+            pull = w.pull-is ∙ pull_so_far ∙ sym (ap (near_pull c.args.axis regions c.args.mids.now (region_of regions c.args.p)) same);
+          }
     ]
