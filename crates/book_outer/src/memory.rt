@@ -106,8 +106,7 @@ impl Folder for MemFolder {
         requires room { 0 < length buf.old }
         requires begun { IsSome self.old.reading }
         ensures answer { MatchBool (is_to_fail self.old.failing self.old.calls) (result ≡ Err Trouble.Failed) (IsOk result) }
-        ensures calls { self.new.calls ≡ one_more self.old.calls }
-        ensures failing { self.new.failing ≡ self.old.failing }
+        ensures calls { (self.new.calls ≡ one_more self.old.calls) × (self.new.failing ≡ self.old.failing) }
         ensures reads { Reads (Some self.old.files) self.old.reading buf.old buf.new result self.new.reading }
         ensures files { self.new.files ≡ self.old.files }
         ensures writing { self.new.writing ≡ self.old.writing }

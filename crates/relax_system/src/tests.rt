@@ -19,6 +19,18 @@ const PAIR: [Row; 2] = [(0, 3, &[(1, 1)], 1, 0), (0, 3, &[(0, 1)], 1, 3)];
 /// Two points that no constant holds, with two entries for one pair.
 const UNANCHORED: [Row; 2] = [(4, 9, &[(1, 2), (1, 3)], 0, 0), (4, 9, &[(0, 5)], 0, 0)];
 
+/// A point that two constants of the same weight hold, at either end of its box.
+const MIDDLE: [Row; 1] = [(0, 10_000_000, &[], 1680, 8_400_000_000)];
+
+/// A point with the greatest box, weight and sum.
+const GREATEST: [Row; 1] = [(
+    0,
+    2_000_000_000_000,
+    &[],
+    1 << 40,
+    (1 << 40) * 2_000_000_000_000,
+)];
+
 fn points_of(alloc: Global, rows: &[Row]) -> Result<Points, Memory> {
     let mut points = Points::new(alloc);
     for (lo, hi, entries, anchor, anchored) in rows {
@@ -78,11 +90,7 @@ fn solves(rt: HostRuntime) -> Result<(), Fail> {
     let cases: [(&[Row], &[u64], &[u64]); 6] = [
         (&[], &[], &[]),
         (&PAIR, &[0, 1], &[2, 3]),
-        (
-            &[(0, 10_000_000, &[], 1680, 8_400_000_000)],
-            &[5_000_000],
-            &[5_000_000],
-        ),
+        (&MIDDLE, &[5_000_000], &[5_000_000]),
         (
             &[
                 (0, 10_000_000, &[(1, 840)], 840, 0),
@@ -126,16 +134,7 @@ fn judges(rt: HostRuntime) -> Result<(), Fail> {
         (&[], true),
         (&PAIR, true),
         (&UNANCHORED, true),
-        (
-            &[(
-                0,
-                2_000_000_000_000,
-                &[],
-                1 << 40,
-                (1 << 40) * 2_000_000_000_000,
-            )],
-            true,
-        ),
+        (&GREATEST, true),
         // an empty box, and one past the range
         (&[(1, 0, &[(1, 1)], 0, 0), (1, 0, &[(0, 1)], 0, 0)], false),
         (&[(0, 2_000_000_000_001, &[], 1, 0)], false),
