@@ -75,7 +75,12 @@ pub fn load<F: Folder>(alloc: Global, folder: &mut F, name: &str) -> Result<Vec<
 }
 
 /// The whole file, of at most so many bytes, read in pieces.
-pub fn load_within<F: Folder>(alloc: Global, folder: &mut F, name: &str, most: usize) -> Result<Vec<u8>, LoadError>
+pub fn load_within<F: Folder>(
+    alloc: Global,
+    folder: &mut F,
+    name: &str,
+    most: usize,
+) -> Result<Vec<u8>, LoadError>
     ensures loaded { IfOk result (λ bytes. IfSome ((F.state folder.old).files) (λ files. content files name.now ≡ Some bytes.items)) }
     ensures within { IfOk result (λ bytes. vec_len bytes ≤ most) }
     ensures too_long { result ≡ Err LoadError.TooLong → IfSome ((F.state folder.old).files) (λ files. IsLongerThan most files name.now) }
