@@ -27,10 +27,10 @@ use Rattle.proud_top.specs.Request.{requested, beside}
 use Rattle.proud_top.specs.Accepted.{Reads, ReadsWeights, Accepts, IsFaultAt, IsLast}
 use Rattle.proud_top.specs.Flow.{places, places_records, reads, last_kind}
 use Rattle.proud_top.specs.Named.{node_of, point_of, node_of_fault, point_of_fault, IsNodeName, IsPointName, IsNameIn}
-use Rattle.proud_top.specs.Statuses.{GotFront, Got, HasReadUpTo, IsReport, IsCause, IsRefusal, IsUnread, IsMisused, IsDue, IsDone, IsUsage, IsRefused, IsReadFault, IsWriteFault, IsMemory, IsPlaceable, AreReadsCalm, ArePutsCalm}
+use Rattle.proud_top.specs.Statuses.{status_of, GotFront, Got, HasReadUpTo, IsReport, IsCause, IsRefusal, IsUnread, IsMisused, IsDue, IsDone, IsUsage, IsRefused, IsReadFault, IsWriteFault, IsMemory, IsPlaceable, AreReadsCalm, ArePutsCalm}
 use Rattle.proud_top.specs.Forms.Saying.{Says, Puts}
 use Rattle.proud_top.specs.Forms.Inputs.{Texts, AreWeights, AreRecords, HoldsWeights, HasTexts, places_texts}
-use Rattle.proud_top.specs.Forms.Stops.{status_of, StopsReading, Gathers, Places, AreRecordsOf, HasNode, HasPoint, Covers, CoversStop, IsLineOf, Refuses}
+use Rattle.proud_top.specs.Forms.Stops.{StopsReading, Gathers, Places, AreRecordsOf, HasNode, HasPoint, Covers, CoversStop, IsLineOf, Refuses}
 use Rattle.proud_top.proofs.Once.{OneAnswer}
 use Rattle.proud_top.proofs.OneEnd.{one_end, never_refused}
 use Rattle.proud_top.proofs.Naming.{named_among}

@@ -17,11 +17,19 @@ use Rattle.net_model.specs.Webs.{joints_of}
 use Rattle.proud_top.specs.declared.status.Refusal.{Refusal}
 use Rattle.proud_top.specs.declared.status.Status.{Status}
 use Rattle.proud_top.specs.declared.status.Status.TheVariants.{Done, Usage, Refused, ReadFault, WriteFault, Memory}
+use Rattle.proud_top.specs.declared.stop.Stop.{Stop}
+use Rattle.proud_top.specs.declared.stop.Stop.TheVariants as stop
 use Rattle.proud_top.specs.Lines.{usage_line, cannot_read_line, refusal_line}
 use Rattle.proud_top.specs.Request.{requested}
 use Rattle.proud_top.specs.Accepted.{Accepts, IsFaultAt, IsLast}
 use Rattle.proud_top.specs.Flow.{reads, places, last_kind}
 use Rattle.proud_top.specs.Named.{IsNameIn}
+
+-- the status of a run that stopped before there was a report
+abbrev pub status_of : Stop → Status
+status_of (stop.ReadFault kind) = ReadFault kind
+status_of (stop.Refused refusal) = Refused refusal
+status_of stop.Memory = Memory
 
 -- Up to the file of the kind all were begun and none was absent, where the files are known; and no read fault was counted.
 pub record HasReadUpTo (kind : FileKind) (word : List ℕ) (old new : FolderState) : Type 0 where

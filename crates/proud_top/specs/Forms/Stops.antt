@@ -26,7 +26,7 @@ use Rattle.proud_top.specs.Lines.{cannot_read_line, refusal_line}
 use Rattle.proud_top.specs.Accepted.{IsFaultAt}
 use Rattle.proud_top.specs.Flow.{reads, joins, places_records, last_kind}
 use Rattle.proud_top.specs.Named.{node_of, point_of, IsNameIn}
-use Rattle.proud_top.specs.Statuses.{HasReadUpTo, IsUntouched}
+use Rattle.proud_top.specs.Statuses.{status_of, HasReadUpTo, IsUntouched}
 use Rattle.proud_top.specs.Forms.Inputs.{Texts, AreRecords, HasTexts, parses, places_texts}
 use Rattle.proud_top.specs.Forms.Saying.{Puts}
 
@@ -41,11 +41,6 @@ stop_of_net net_error.Memory = Memory
 abbrev pub stop_of_reach : ReachError → Stop
 stop_of_reach (reach_error.Unanchored point) = Refused (Unanchored point)
 stop_of_reach reach_error.Memory = Memory
-
-abbrev pub status_of : Stop → Status
-status_of (ReadFault kind) = status.ReadFault kind
-status_of (Refused refusal) = status.Refused refusal
-status_of Memory = status.Memory
 
 -- the refusal names no node
 pub record IsNameless (refusal : Refusal) : Type 0 where
