@@ -85,8 +85,8 @@ parses texts (Ok records) = AreRecords texts records
 parses texts (Err refusal) = ⊥
 
 -- the flow from the texts on
-abbrev pub places_texts : Texts → Result (List ℕ) Refusal → Type 0
-places_texts texts = parses texts then places_records
+abbrev pub places_texts : ℕ → Texts → Result (List ℕ) Refusal → Type 0
+places_texts count texts = parses texts then places_records count
 
 -- the file of the name holds the text
 pub record Holds (files : List FileEntry) (name text : List ℕ) : Type 0 where

@@ -66,11 +66,11 @@ Designs texts (Err (ReadFault kind)) = ⊥
 Designs texts (Err Memory) = Unit {0}
 
 -- the report that the flow from the texts on ends with, or the refusal that stops it
-abbrev pub Places : Texts → Result Placed Stop → Type 0
-Places texts (Ok placed) = places_texts texts (Ok placed.report.items)
-Places texts (Err (Refused refusal)) = places_texts texts (Err refusal)
-Places texts (Err (ReadFault kind)) = ⊥
-Places texts (Err Memory) = Unit {0}
+abbrev pub Places : ℕ → Texts → Result Placed Stop → Type 0
+Places count texts (Ok placed) = places_texts count texts (Ok placed.report.items)
+Places count texts (Err (Refused refusal)) = places_texts count texts (Err refusal)
+Places count texts (Err (ReadFault kind)) = ⊥
+Places count texts (Err Memory) = Unit {0}
 
 -- the records as which the texts read, where there are any
 abbrev pub AreRecordsOf : Option Texts → Records → Type 0
