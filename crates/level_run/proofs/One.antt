@@ -1,6 +1,6 @@
 -- There is exactly one list of levels, and each of its systems is valid.
 use Rattle.std.proofs.Common.{◌≡◌, ℕ, zero, suc, ◌+◌, ◌/◌, ◌<◌, ◌≤◌, ◌⊎◌, List, [], ◌∷◌, ◌++◌, length, get_or, refl, sym, ◌∙◌, ap, subst, inl, inr, arith}
-use Rattle.std.specs.Prelude.{map, ℤ}
+use Rattle.std.specs.Prelude.{ℤ}
 use Rattle.std.specs.List.{range_with_len}
 use Rattle.std.proofs.lemmas.Bool.{cases_lt}
 use Rattle.std.proofs.lemmas.List.{ext_get_or, length_push, get_or_append_left, get_or_push, get_or_default}
@@ -18,7 +18,6 @@ use Rattle.area_cut.specs.Regions.{ArePartition, AreShares, HaveHomes}
 use Rattle.area_cut.specs.Cut.{cut_of}
 use Rattle.net_model.specs.Values.{NetworkValue}
 use Rattle.net_model.specs.WellFormed.{IsNet}
-use Rattle.net_model.specs.Webs.{joints_of}
 use Rattle.level_run.specs.declared.level.Solve.{Solve}
 use Rattle.level_run.specs.declared.level.Level.{Level}
 use Rattle.level_run.specs.LevelSystem.{level_system}

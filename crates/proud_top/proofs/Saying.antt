@@ -1,9 +1,9 @@
 -- From what is due, and what the put of it answered, to what the status says; and what that leaves possible.
-use Rattle.std.proofs.Common.{◌≡◌, ◌⊎◌, ◌++◌, ◌∷◌, ◌<◌, ℕ, List, [], length, take, refl, sym, ◌∙◌, ap, subst, inl, inr}
+use Rattle.std.proofs.Common.{◌≡◌, ◌⊎◌, ◌++◌, ◌∷◌, ℕ, List, [], refl, sym, ◌∙◌, ap, subst, inl, inr}
 use Rattle.std.specs.Prelude.{Option, Some, None, IfSome, Result, Ok, Err}
 use Rattle.std.specs.Io.KnownBytes.{Appends}
 use Rattle.book_outer.specs.Cause.{Rose}
-use Rattle.book_outer.specs.Files.{FileEntry, content}
+use Rattle.book_outer.specs.Files.{FileEntry}
 use Rattle.book_outer.specs.State.{FolderState, SinkState}
 use Rattle.book_files.specs.declared.records.FileKind.{FileKind}
 use Rattle.book_files.specs.declared.records.FileKind.TheVariants.{Scl}
@@ -18,19 +18,19 @@ use Rattle.net_model.specs.Network.{IsFirstFault as IsFirstNetFault}
 use Rattle.book_design.specs.Records.{Records}
 use Rattle.book_design.specs.Values.{DesignValue}
 use Rattle.proud_top.specs.declared.status.Refusal.{Refusal}
-use Rattle.proud_top.specs.declared.status.Refusal.TheVariants.{TooLong, Text, Design, Net, Unanchored}
+use Rattle.proud_top.specs.declared.status.Refusal.TheVariants.{Design, Net, Unanchored}
 use Rattle.proud_top.specs.declared.status.Status.{Status}
 use Rattle.proud_top.specs.declared.status.Status.TheVariants.{Done, Usage, Refused, ReadFault, WriteFault, Memory}
 use Rattle.proud_top.specs.declared.stop.Stop.{Stop}
 use Rattle.proud_top.specs.declared.stop.Stop.TheVariants as stop
-use Rattle.proud_top.specs.Request.{RequestValue, requested, beside}
-use Rattle.proud_top.specs.Accepted.{Reads, ReadsWeights, Accepts, IsFaultAt, IsLast}
-use Rattle.proud_top.specs.Flow.{places, places_records, reads, last_kind}
-use Rattle.proud_top.specs.Named.{node_of, point_of, node_of_fault, point_of_fault, IsNodeName, IsPointName, IsNameIn}
-use Rattle.proud_top.specs.Statuses.{status_of, GotFront, Got, HasReadUpTo, IsReport, IsCause, IsRefusal, IsUnread, IsMisused, IsDue, IsDone, IsUsage, IsRefused, IsReadFault, IsWriteFault, IsMemory, IsPlaceable, AreReadsCalm, ArePutsCalm}
+use Rattle.proud_top.specs.Request.{RequestValue, requested}
+use Rattle.proud_top.specs.Accepted.{ReadsWeights, Accepts}
+use Rattle.proud_top.specs.Flow.{places, reads, last_kind}
+use Rattle.proud_top.specs.Named.{node_of_fault, point_of_fault}
+use Rattle.proud_top.specs.Statuses.{status_of, GotFront, HasReadUpTo, IsReport, IsCause, IsDue, IsPlaceable, AreReadsCalm, ArePutsCalm}
 use Rattle.proud_top.specs.Forms.Saying.{Says, Puts}
 use Rattle.proud_top.specs.Forms.Inputs.{Texts, AreWeights, AreRecords, HoldsWeights, HasTexts, places_texts}
-use Rattle.proud_top.specs.Forms.Stops.{StopsReading, Gathers, Places, AreRecordsOf, HasNode, HasPoint, Covers, CoversStop, IsLineOf, Refuses}
+use Rattle.proud_top.specs.Forms.Stops.{StopsReading, Gathers, Places, HasNode, HasPoint, Covers, CoversStop, IsLineOf, Refuses}
 use Rattle.proud_top.proofs.Once.{OneAnswer}
 use Rattle.proud_top.proofs.OneEnd.{one_end, never_refused}
 use Rattle.proud_top.proofs.Naming.{named_among}

@@ -17,11 +17,10 @@ use Rattle.book_files.specs.PlaceRules.{places_grammar}
 use Rattle.book_files.specs.RowRules.{rows_grammar}
 use Rattle.book_files.specs.declared.loading.TheConstants.{MOST_BYTES}
 use Rattle.book_design.specs.Records.{Records}
-use Rattle.book_design.specs.Values.{DesignValue}
 use Rattle.proud_top.specs.declared.status.Refusal.{Refusal}
 use Rattle.proud_top.specs.Request.{beside}
-use Rattle.proud_top.specs.Accepted.{Reads, IsFaultOf}
-use Rattle.proud_top.specs.Flow.{◌then◌, joins, places_records}
+use Rattle.proud_top.specs.Accepted.{IsFaultOf}
+use Rattle.proud_top.specs.Flow.{◌then◌, places_records}
 
 pub record Texts : Type 0 where
   pub aux : List ℕ

@@ -24,10 +24,10 @@ use Rattle.proud_top.specs.declared.stop.Stop.{Stop}
 use Rattle.proud_top.specs.declared.stop.Stop.TheVariants.{ReadFault, Refused, Memory}
 use Rattle.proud_top.specs.Lines.{cannot_read_line, refusal_line}
 use Rattle.proud_top.specs.Accepted.{IsFaultAt}
-use Rattle.proud_top.specs.Flow.{reads, joins, places_records, last_kind}
+use Rattle.proud_top.specs.Flow.{reads, joins, last_kind}
 use Rattle.proud_top.specs.Named.{node_of, point_of, IsNameIn}
 use Rattle.proud_top.specs.Statuses.{status_of, HasReadUpTo, IsUntouched}
-use Rattle.proud_top.specs.Forms.Inputs.{Texts, AreRecords, HasTexts, parses, places_texts}
+use Rattle.proud_top.specs.Forms.Inputs.{Texts, AreRecords, HasTexts, places_texts}
 use Rattle.proud_top.specs.Forms.Saying.{Puts}
 
 abbrev pub stop_of_join : JoinError → Stop

@@ -1,8 +1,6 @@
-use Rattle.std.proofs.Common.{◌≡◌, ◌<◌, ℕ, List, length, Result, Ok, Err, refl, sym, ◌∙◌, subst, inl, inr}
-use Rattle.std.specs.Prelude.{Vec}
+use Rattle.std.proofs.Common.{◌≡◌, ◌<◌, ℕ, length, Ok, Err, refl, inl, inr}
 use Rattle.std.proofs.lemmas.List.{length-map}
 use Rattle.std.proofs.lemmas.Result.{err_from_is_err_and}
-use Rattle.book_design.specs.Records.{Records}
 use Rattle.book_design.specs.Values.{DesignValue}
 use Rattle.pad_reach.specs.Chain.{HasChain}
 use Rattle.pad_reach.specs.Refusal.{IsRefusal}

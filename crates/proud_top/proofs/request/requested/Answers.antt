@@ -1,4 +1,4 @@
-use Rattle.std.proofs.Common.{◌≡◌, ℕ, List, [], ◌∷◌, length, refl, sym, ◌∙◌, ap, arith}
+use Rattle.std.proofs.Common.{◌≡◌, ℕ, List, [], ◌∷◌, length, sym, ◌∙◌, ap, arith}
 use Rattle.std.specs.Prelude.{◌≤◌, Option, Some, None, IfSome, MatchOption, slice_index_or, unwrap_or}
 use Rattle.relax_crew.specs.Crew.{IsCrewSize}
 use Rattle.level_run.specs.declared.hierarchy.TheConstants.{MOST_LEVELS}

@@ -1,7 +1,7 @@
 use Rattle.std.proofs.Common.{refl}
 use Rattle.std.specs.Prelude.{Some, None}
 use Rattle.proud_top.specs.declared.status.Status.TheVariants.{Done, Usage}
-use Rattle.proud_top.proofs.Saying.{says, says_stop, covered_gather, covered_place, due_gather, due_place, due_report}
+use Rattle.proud_top.proofs.Saying.{says, says_stop, covered_place, due_gather, due_place, due_report}
 use Rattle.proud_top.proofs.top.run.Goals as goal
 
 pub returns-in_default-clause-says : goal.returns-in_default-clause-says

@@ -1,10 +1,8 @@
-use Rattle.std.proofs.Common.{ℕ, ◌<◌, ◌≤◌, List, length, IfOk, Result, Ok, Err}
+use Rattle.std.proofs.Common.{ℕ, ◌≤◌, List, length, IfOk, Result, Ok, Err}
 use Rattle.std.proofs.lemmas.List.{length-map}
 use Rattle.book_text.specs.declared.memory.Memory.{Memory}
 use Rattle.area_cut.specs.declared.axis.Axis.{Axis}
 use Rattle.net_model.specs.Values.{NetworkValue}
-use Rattle.net_model.specs.WellFormed.{IsNet}
-use Rattle.net_model.specs.Webs.{joints_of}
 use Rattle.level_run.specs.declared.level.Level.{Level}
 use Rattle.level_run.specs.Levels.{IsLevels, HasChains, Encloses, solve_on, level_at, system_of}
 use Rattle.proud_top.specs.Solve.{AreSolved}
