@@ -28,12 +28,7 @@ pub(crate) fn report_text(
 }
 
 /// A line for each movable node.
-fn lines(
-    alloc: Global,
-    nodes: &[Node<'_>],
-    x: &Solve,
-    y: &Solve,
-) -> Result<Vec<u8>, Memory>
+fn lines(alloc: Global, nodes: &[Node<'_>], x: &Solve, y: &Solve) -> Result<Vec<u8>, Memory>
     requires x { IsOver (length (names_of (node_values nodes.now))) x.now }
     requires y { IsOver (length (names_of (node_values nodes.now))) y.now }
     ensures { IfOk result (λ text. text.items ≡ report_from 0 (names_of (node_values nodes.now)) x.now y.now) }
@@ -42,7 +37,13 @@ fn lines(
     let mut point = 0;
     for node in nodes {
         if !node.fixed {
-            push_line(alloc, &mut text, node.name.0, ends(x, point), ends(y, point))?;
+            push_line(
+                alloc,
+                &mut text,
+                node.name.0,
+                ends(x, point),
+                ends(y, point),
+            )?;
             point += 1;
         }
     }

@@ -71,7 +71,11 @@ fn levels_by(option: &str, number: &str) -> Option<u32>
     ensures levels { result ≡ levels_by option.now number.now }
     ensures few { IfSome result (λ levels. levels ≤ MOST_LEVELS) }
 {
-    if option == "--levels" { levels_in(number) } else { None }
+    if option == "--levels" {
+        levels_in(number)
+    } else {
+        None
+    }
 }
 
 /// The number of seats that an option asks for.
@@ -79,7 +83,11 @@ fn seats_by(option: &str, number: &str) -> Option<usize>
     ensures seats { result ≡ seats_by option.now number.now }
     ensures size { IfSome result IsCrewSize }
 {
-    if option == "--seats" { seats_in(number) } else { None }
+    if option == "--seats" {
+        seats_in(number)
+    } else {
+        None
+    }
 }
 
 /// The number of levels that a word asks for: a whole number from 0 to 12.

@@ -11,6 +11,7 @@ use std::thread::Threads;
 
 mod exit;
 mod faults;
+mod levels;
 mod limits;
 mod seats;
 
@@ -196,20 +197,23 @@ fn assert_case<R: Threads + Abort + Sync>(
 }
 
 /// The report of one cell that stands in the middle.
-const MIDDLE: &[u8] = b"a 5000000 5000000 5000000 5000000\n";
+const MIDDLE: &[u8] = b"a 5000000 5000000 5000000 5000000\nlevels 4 gap 0\n";
 
 const PLACED: [(Texts, &[u8]); 9] = [
     (ONE_CELL, MIDDLE),
-    (THREE_PADS, b"a 3333333 3333334 5000000 5000000\n"),
+    (
+        THREE_PADS,
+        b"a 3333333 3333334 5000000 5000000\nlevels 4 gap 1\n",
+    ),
     (
         TWO_CELLS,
-        b"a 3333333 3333334 4999999 5000001\nb 6666666 6666667 4999999 5000001\n",
+        b"a 2500000 2500000 5000000 5000000\nb 7500000 7500000 5000000 5000000\nlevels 4 gap 2\n",
     ),
     (
         USUAL,
-        b"u 7739130 7739131 18608695 18608696\nv 16956521 16956522 25434782 25434783\n",
+        b"u 7739130 7739131 13125000 13125000\nv 16956521 16956522 24833333 24833334\nlevels 4 gap 1\n",
     ),
-    (TERMINALS, b""),
+    (TERMINALS, b"levels 4 gap 0\n"),
     // the terminal l stands beside the core: it is clamped to the core's left end
     (
         Texts {
@@ -224,14 +228,14 @@ const PLACED: [(Texts, &[u8]); 9] = [
                 NetDegree : 2 n0\nl B : 1 0\na B\nNetDegree : 2 n1\na B\nr B\n",
             ..ONE_CELL
         },
-        b"a 5500000 5500000 5000000 5000000\n",
+        b"a 5500000 5500000 5000000 5000000\nlevels 4 gap 0\n",
     ),
     (
         Texts {
             wts: b"UCLA wts 1.0\nn0 65535\n",
             ..WEIGHTED
         },
-        b"a 152 153 5000000 5000000\n",
+        b"a 152 153 5000000 5000000\nlevels 4 gap 1\n",
     ),
     // a name of weights that no net has is without effect
     (
@@ -254,7 +258,7 @@ fn designs_are_placed(rt: HostRuntime) -> Result<(), Fail> {
 }
 
 /// The line for words of another form.
-const USAGE: &[u8] = b"usage: proud [--seats N] DESIGN\n";
+const USAGE: &[u8] = b"usage: proud [--levels N] [--seats N] DESIGN\n";
 
 /// A run without a word behind the program's name.
 const NO_WORDS: Case = Case {
@@ -387,8 +391,7 @@ fn files_stand_beside_the_aux_file(rt: HostRuntime) -> Result<(), Fail> {
     let words = words_of(alloc, &["proud", "d/a.aux"])?;
     let status = proud(&rt, alloc, &words, &mut folder, &mut report, &OpenGate);
     assert_eq!(rt; status, Status::Done);
-    let expected: &[u8] = b"a 5000000 5000000 5000000 5000000\n";
-    assert!(rt; report.written() == expected);
+    assert!(rt; report.written() == MIDDLE);
     Ok(())
 }
 

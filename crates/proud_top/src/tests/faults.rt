@@ -292,7 +292,7 @@ fn assert_many_nets<R: Threads + Abort + Sync>(
 
 #[test]
 fn points_that_are_too_heavy_are_named(rt: HostRuntime) -> Result<(), Fail> {
-    let light = b"a 0 0 5000000 5000000\n";
+    let light = b"a 0 0 5000000 5000000\nlevels 4 gap 0\n";
     assert_many_nets(&rt, rt.alloc(), 19_973, Status::Done, light)?;
     let heavy = Status::Refused(Refusal::Net(NetFault::Heavy(0)));
     let line = b"proud: node a: too heavy\n";
@@ -327,7 +327,8 @@ fn assert_many_pads<R: Threads + Abort + Sync>(
 
 #[test]
 fn nets_that_are_too_wide_are_named(rt: HostRuntime) -> Result<(), Fail> {
-    let narrow = b"a 0 1 4999999 5000001\nb 0 1 4999999 5000001\n";
+    let narrow = b"a 9784 9785 5000000 5000000\nb 5000000 5000000 5000000 5000000\n\
+        levels 4 gap 2\n";
     assert_many_pads(&rt, rt.alloc(), 510, Status::Done, narrow)?;
     let wide = Status::Refused(Refusal::Net(NetFault::NetTooWide(0)));
     let line = b"proud: net 0: too wide\n";

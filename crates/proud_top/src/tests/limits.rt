@@ -21,4 +21,5 @@ fn limits_are_those_of_the_rules(rt: HostRuntime) {
     assert_eq!(rt; relax_system::MOST_COORDINATE, 2_000_000_000_000);
     assert_eq!(rt; relax_system::MOST_WEIGHT, 1 << 40);
     assert_eq!(rt; relax_crew::MOST_SEATS, 64);
+    assert_eq!(rt; level_run::MOST_LEVELS, 12);
 }

@@ -15,7 +15,7 @@ use std::thread::Threads;
 #[test]
 fn seats_may_be_asked_for(rt: HostRuntime) -> Result<(), Fail> {
     let line: &'static [u8] =
-        b"a 3333333 3333334 4999999 5000001\nb 6666666 6666667 4999999 5000001\n";
+        b"a 2500000 2500000 5000000 5000000\nb 7500000 7500000 5000000 5000000\nlevels 4 gap 2\n";
     let placed = case_of(TWO_CELLS, Status::Done, line);
     let good: [&'static [&'static str]; 4] = [
         &["proud", "--seats", "1", "a.aux"],
@@ -49,7 +49,7 @@ fn seats_may_be_asked_for(rt: HostRuntime) -> Result<(), Fail> {
     assert_case(&rt, rt.alloc(), Case { words, ..unread })?;
     // Without a point no crew is needed.
     let words = &["proud", "--seats", "2", "a.aux"];
-    let empty = case_of(TERMINALS, Status::Done, b"");
+    let empty = case_of(TERMINALS, Status::Done, b"levels 4 gap 0\n");
     assert_case(&rt, rt.alloc(), Case { words, ..empty })?;
     Ok(())
 }
@@ -109,7 +109,7 @@ fn proud_meets(rt: HostRuntime) -> Result<(), Fail> {
     let alloc = rt.alloc();
     let mut folder = MemFolder::new(files_of(alloc, TWO_CELLS)?, Calls::new(alloc));
     let mut report = MemSink::new(alloc, Calls::new(alloc));
-    let words = words_of(alloc, &["proud", "--seats", "2", "a.aux"])?;
+    let words = words_of(alloc, &["proud", "--levels", "0", "--seats", "2", "a.aux"])?;
     let gate = Meeting {
         first: Flags::new(),
         second: Flags::new(),
@@ -187,29 +187,34 @@ fn deals<R: Threads + Abort + Sync>(
 #[test]
 fn as_many_seats_work_as_are_asked_for(rt: HostRuntime) -> Result<(), Fail> {
     let alloc = rt.alloc();
-    deals(&rt, alloc, &["proud", "a.aux"], &[0, 1, 2, 3])?;
     deals(
         &rt,
         alloc,
-        &["proud", "--seats", "1", "a.aux"],
+        &["proud", "--levels", "0", "a.aux"],
+        &[0, 1, 2, 3],
+    )?;
+    deals(
+        &rt,
+        alloc,
+        &["proud", "--levels", "0", "--seats", "1", "a.aux"],
         &[0, 0, 0, 0],
     )?;
     deals(
         &rt,
         alloc,
-        &["proud", "--seats", "3", "a.aux"],
+        &["proud", "--levels", "0", "--seats", "3", "a.aux"],
         &[0, 1, 2, 2],
     )?;
     deals(
         &rt,
         alloc,
-        &["proud", "--seats", "7", "a.aux"],
+        &["proud", "--levels", "0", "--seats", "7", "a.aux"],
         &[1, 3, 5, 6],
     )?;
     deals(
         &rt,
         alloc,
-        &["proud", "--seats", "64", "a.aux"],
+        &["proud", "--levels", "0", "--seats", "64", "a.aux"],
         &[15, 31, 47, 63],
     )?;
     Ok(())
