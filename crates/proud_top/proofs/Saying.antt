@@ -27,8 +27,8 @@ use Rattle.proud_top.specs.Request.{RequestValue, requested}
 use Rattle.proud_top.specs.Accepted.{ReadsWeights, Accepts}
 use Rattle.proud_top.specs.Flow.{places, reads, last_kind}
 use Rattle.proud_top.specs.Named.{node_of_fault, point_of_fault}
-use Rattle.proud_top.specs.Statuses.{status_of, GotFront, HasReadUpTo, IsReport, IsCause, IsDue, IsPlaceable, AreReadsCalm, ArePutsCalm}
-use Rattle.proud_top.specs.Forms.Saying.{Says, Puts}
+use Rattle.proud_top.specs.Statuses.{status_of, Says, GotFront, HasReadUpTo, IsReport, IsCause, IsDue, IsDone, IsUsage, IsRefused, IsReadFault, IsWriteFault, IsMemory, IsPlaceable, AreReadsCalm, ArePutsCalm}
+use Rattle.proud_top.specs.Forms.Saying.{Puts}
 use Rattle.proud_top.specs.Forms.Inputs.{Texts, AreWeights, AreRecords, HoldsWeights, HasTexts, places_texts}
 use Rattle.proud_top.specs.Forms.Stops.{StopsReading, Gathers, Places, HasNode, HasPoint, Covers, CoversStop, IsLineOf, Refuses}
 use Rattle.proud_top.proofs.Once.{OneAnswer}
@@ -271,3 +271,17 @@ complete one files words f f' s s' status is given calm quiet said = by_status s
   by_status (Refused refusal) h = absurd (no_refusal refusal h.due.cause.request h.due.cause.asked h.due.cause.flow)
   by_status (ReadFault kind) h = absurd (calm h.due.rose)
   by_status Memory h = inr refl
+
+-- what a status says, of what is known under each
+pub said_of : (words : List (List ℕ)) (f f' : FolderState) (s s' : SinkState) (status : Status)
+    → (status ≡ Done → IsDone words f f' s s') → (status ≡ Usage → IsUsage words s s')
+    → ((refusal : Refusal) → status ≡ Refused refusal → IsRefused words refusal f f' s s')
+    → ((kind : FileKind) → status ≡ ReadFault kind → IsReadFault words kind f f' s s')
+    → (status ≡ WriteFault → IsWriteFault words f f' s s') → (status ≡ Memory → IsMemory words f f' s s')
+    → Says status words f f' s s'
+said_of words f f' s s' Done done usage refused unread unwritten memory = done refl
+said_of words f f' s s' Usage done usage refused unread unwritten memory = usage refl
+said_of words f f' s s' (Refused refusal) done usage refused unread unwritten memory = refused refusal refl
+said_of words f f' s s' (ReadFault kind) done usage refused unread unwritten memory = unread kind refl
+said_of words f f' s s' WriteFault done usage refused unread unwritten memory = unwritten refl
+said_of words f f' s s' Memory done usage refused unread unwritten memory = memory refl

@@ -1,7 +1,9 @@
--- The exit status of each answer.
-use Rattle.std.specs.Prelude.{ℕ}
+-- The exit status of each status of a run.
+use Rattle.std.specs.Prelude.{◌≡◌, ℕ, List}
+use Rattle.book_outer.specs.State.{FolderState, SinkState}
 use Rattle.proud_top.specs.declared.status.Status.{Status}
 use Rattle.proud_top.specs.declared.status.Status.TheVariants.{Done, Usage, Refused, ReadFault, WriteFault, Memory}
+use Rattle.proud_top.specs.Statuses.{Says}
 
 abbrev pub code_of : Status → ℕ
 code_of Done = 0
@@ -10,3 +12,9 @@ code_of (Refused refusal) = 2
 code_of (ReadFault kind) = 3
 code_of WriteFault = 4
 code_of Memory = 5
+
+-- The run on the words came to a status, which says why and what stands then; the exit status is that status's code.
+pub record IsExit (words : List (List ℕ)) (folder folder' : FolderState) (report report' : SinkState) (code : ℕ) : Type 0 where
+  pub status : Status
+  pub says : Says status words folder folder' report report'
+  pub coded : code ≡ code_of status

@@ -120,6 +120,15 @@ pub record IsMemory (words : List (List ℕ)) (folder folder' : FolderState) (re
       ⊎ ((status : Status) × (text : List ℕ) × IsDue status words folder folder' text × GotFront report report' text)
   pub puts : report'.faults ≡ report.faults
 
+-- what the status says
+abbrev pub Says : Status → List (List ℕ) → FolderState → FolderState → SinkState → SinkState → Type 0
+Says Done words folder folder' report report' = IsDone words folder folder' report report'
+Says Usage words folder folder' report report' = IsUsage words report report'
+Says (Refused refusal) words folder folder' report report' = IsRefused words refusal folder folder' report report'
+Says (ReadFault kind) words folder folder' report report' = IsReadFault words kind folder folder' report report'
+Says WriteFault words folder folder' report report' = IsWriteFault words folder folder' report report'
+Says Memory words folder folder' report report' = IsMemory words folder folder' report report'
+
 -- the design that the words ask for is accepted: its files have no fault, nor has what they make, and each point has a chain
 pub record IsPlaceable (words : List (List ℕ)) (files : List FileEntry) : Type 0 where
   pub request : RequestValue

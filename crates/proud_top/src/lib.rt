@@ -11,6 +11,7 @@
 #![tactic(auto)]
 
 mod crew;
+mod exit;
 mod gather;
 mod inputs;
 mod laws;
@@ -24,6 +25,7 @@ mod top;
 
 pub use book_design::DesignFault;
 pub use book_files::{FileKind, TextFault, TextKind};
+pub use exit::exit_code;
 pub use net_model::NetFault;
 pub use status::{Refusal, Status};
 pub use top::proud;

@@ -9,6 +9,7 @@ use std::process::Abort;
 use std::test::Fail;
 use std::thread::Threads;
 
+mod exit;
 mod faults;
 mod levels;
 mod limits;

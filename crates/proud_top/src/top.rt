@@ -4,8 +4,8 @@ ghost use Rattle.book_files.specs.declared.records.FileKind.{FileKind};
 ghost use Rattle.proud_top.specs.declared.status.Refusal.{Refusal};
 ghost use Rattle.proud_top.specs.Request.{RequestValue, requested};
 ghost use Rattle.proud_top.specs.Flow.{places};
-ghost use Rattle.proud_top.specs.Statuses.{IsDone, IsUsage, IsRefused, IsReadFault, IsWriteFault, IsMemory, IsCause, IsPlaceable, AreReadsCalm, ArePutsCalm, IsUntouched};
-ghost use Rattle.proud_top.specs.Forms.Saying.{Says, Puts};
+ghost use Rattle.proud_top.specs.Statuses.{Says, IsDone, IsUsage, IsRefused, IsReadFault, IsWriteFault, IsMemory, IsCause, IsPlaceable, AreReadsCalm, ArePutsCalm, IsUntouched};
+ghost use Rattle.proud_top.specs.Forms.Saying.{Puts};
 ghost use Rattle.proud_top.specs.Forms.Stops.{CoversStop, Refuses};
 
 use crate::crew::Crew;
