@@ -1,5 +1,5 @@
 -- What the words of a command line ask for, the number of seats too.
-use Rattle.std.specs.Prelude.{◌≡◌, ℕ, ◌≤◌, List, [], ◌∷◌, codes, bytes_eq, Option, Some, unwrap_or}
+use Rattle.std.specs.Prelude.{◌≡◌, ℕ, ◌≤◌, List, [], ◌∷◌, codes, bytes_eq, if◌then◌else◌, Option, Some, unwrap_or}
 use Rattle.relax_crew.specs.Crew.{IsCrewSize}
 use Rattle.level_run.specs.declared.hierarchy.TheConstants.{MOST_LEVELS}
 use Rattle.proud_top.specs.declared.request.TheConstants.{USUAL_SEATS}
