@@ -1,14 +1,13 @@
 #!/usr/bin/env python3
 """What the program prints for a design, found once more: small and slow, in exact integers, straight from the rules.
 
-levels.py [--levels N] [--regions] AUX, by default 4 levels. It shares nothing with place_cells.rs: it sums a weight for each
-pair of points, and renews all entries of a vector at once until none moves. With --regions it prints each level's regions and
-vectors too. It tests no design: a fault in one ends in some error of Python. compare_levels.py runs it beside other programs.
+levels.py [--levels N] AUX, by default 4 levels. It shares nothing with place_cells.rs: it sums a weight for each pair of
+points, and renews all entries of a vector at once until none moves. It tests no design: a fault in one ends in some error of
+Python. compare_levels.py runs other programs beside it.
 """
 import argparse
 import os
 from decimal import Decimal
-
 
 COUNTS = "numnodes", "numterminals", "numnets", "numpins", "numrows"
 
@@ -162,7 +161,7 @@ def cut(network, region, mids):
 
 
 def levels(network, number):
-    """For each level its regions, and for each axis the two vectors."""
+    """For each level, and for each axis, the two vectors."""
     regions = [Region(list(network.core), list(range(len(network.near))))]
     mids = [[None] * len(network.near)] * 2
     for level in range(number + 1):
@@ -171,25 +170,23 @@ def levels(network, number):
         axes = [list(systems(network, axis, regions, mids)) for axis in (0, 1)]
         solved = [(least(system), greatest(system)) for system in axes]
         mids = [[(lower + upper) // 2 for lower, upper in zip(*pair)] for pair in solved]
-        yield regions, solved
+        yield solved
 
 
-def main():
-    parser = argparse.ArgumentParser()
-    parser.add_argument("--levels", type=int, default=4)
-    parser.add_argument("--regions", action="store_true")
-    parser.add_argument("aux")
-    options = parser.parse_args()
-    design = Design(options.aux)
-    found = list(levels(Network(design), options.levels))
-    if options.regions:
-        for regions, solved in found:
-            print([(region.ends, region.points) for region in regions], solved)
-    for name, *numbers in zip(design.cells, *(vector for pair in found[-1][1] for vector in pair)):
-        os.write(1, f"{name} {' '.join(map(str, numbers))}\n".encode(errors="surrogateescape"))
-    spreads = [upper - lower for _, solved in found for pair in solved for lower, upper in zip(*pair)]
-    os.write(1, f"levels {options.levels} gap {max(spreads, default=0)}\n".encode())
+def report(aux, number):
+    """The bytes that are printed for a design with so many levels."""
+    design = Design(aux)
+    found = list(levels(Network(design), number))
+    vectors = [vector for pair in found[-1] for vector in pair]
+    lines = [f"{name} {' '.join(map(str, numbers))}" for name, *numbers in zip(design.cells, *vectors)]
+    spreads = [upper - lower for solved in found for pair in solved for lower, upper in zip(*pair)]
+    lines.append(f"levels {number} gap {max(spreads, default=0)}")
+    return "".join(line + "\n" for line in lines).encode(errors="surrogateescape")
 
 
 if __name__ == "__main__":
-    main()
+    parser = argparse.ArgumentParser()
+    parser.add_argument("--levels", type=int, default=4)
+    parser.add_argument("aux")
+    options = parser.parse_args()
+    os.write(1, report(options.aux, options.levels))
