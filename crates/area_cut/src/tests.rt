@@ -11,6 +11,92 @@ use std::test::Fail;
 /// A region to be: its ends on x and on y, and its points.
 type Row = (u64, u64, u64, u64, &'static [u32]);
 
+/// A cut by hand: the ends of the region of all points, areas, mids on x and on y, how often it is cut, and what comes of it.
+type Cut = (
+    (u64, u64),
+    &'static [u64],
+    &'static [u64],
+    &'static [u64],
+    usize,
+    &'static [Row],
+);
+
+const CUTS: [Cut; 9] = [
+    // two points with the same mid: the one of the lower number comes first
+    (
+        (10_000_000, 10_000_000),
+        &[2, 2],
+        &[5_000_000, 5_000_000],
+        &[5_000_000, 5_000_000],
+        1,
+        &[
+            (0, 5_000_000, 0, 10_000_000, &[0]),
+            (5_000_000, 10_000_000, 0, 10_000_000, &[1]),
+        ],
+    ),
+    // the front with half of the area is all points, so the last one is left out
+    (
+        (10, 10),
+        &[1, 1, 4],
+        &[1, 2, 3],
+        &[0, 0, 0],
+        1,
+        &[(0, 3, 0, 10, &[0, 1]), (3, 10, 0, 10, &[2])],
+    ),
+    // the first point alone has half of the area, and is the last by number
+    (
+        (10, 10),
+        &[1, 1, 4],
+        &[3, 2, 1],
+        &[0, 0, 0],
+        1,
+        &[(0, 6, 0, 10, &[2]), (6, 10, 0, 10, &[0, 1])],
+    ),
+    // the y side is longer, and its mids count
+    (
+        (9, 10),
+        &[1, 1],
+        &[0, 9],
+        &[9, 0],
+        1,
+        &[(0, 9, 0, 5, &[1]), (0, 9, 5, 10, &[0])],
+    ),
+    // without area the side is halved, rounded down
+    (
+        (5, 0),
+        &[0, 0, 0],
+        &[1, 2, 3],
+        &[0, 0, 0],
+        1,
+        &[(0, 2, 0, 0, &[0]), (2, 5, 0, 0, &[1, 2])],
+    ),
+    // a region without sides stays, and so does one with a single point, or none
+    (
+        (0, 0),
+        &[1, 1],
+        &[0, 0],
+        &[0, 0],
+        2,
+        &[(0, 0, 0, 0, &[0, 1])],
+    ),
+    ((9, 9), &[7], &[1], &[1], 2, &[(0, 9, 0, 9, &[0])]),
+    ((9, 9), &[], &[], &[], 2, &[(0, 9, 0, 9, &[])]),
+    // the parts of each region stand in its place
+    (
+        (8, 8),
+        &[1, 1, 1, 1],
+        &[1, 1, 5, 5],
+        &[5, 1, 1, 5],
+        2,
+        &[
+            (0, 4, 0, 4, &[1]),
+            (0, 4, 4, 8, &[0]),
+            (4, 8, 0, 4, &[2]),
+            (4, 8, 4, 8, &[3]),
+        ],
+    ),
+];
+
 /// One region of all points, from 0 to the two ends, cut as often as asked.
 fn cut_often(
     alloc: Global,
@@ -63,83 +149,7 @@ fn are(rt: &impl Abort, regions: &Regions, rows: &[Row]) {
 
 #[test]
 fn regions_are_cut(rt: HostRuntime) -> Result<(), Fail> {
-    // ends, areas, mids on x and on y, how often, regions
-    let cases: [((u64, u64), &[u64], &[u64], &[u64], usize, &[Row]); 9] = [
-        // two points with the same mid: the one of the lower number comes first
-        (
-            (10_000_000, 10_000_000),
-            &[2, 2],
-            &[5_000_000, 5_000_000],
-            &[5_000_000, 5_000_000],
-            1,
-            &[
-                (0, 5_000_000, 0, 10_000_000, &[0]),
-                (5_000_000, 10_000_000, 0, 10_000_000, &[1]),
-            ],
-        ),
-        // the front with half of the area is all points, so the last one is left out
-        (
-            (10, 10),
-            &[1, 1, 4],
-            &[1, 2, 3],
-            &[0, 0, 0],
-            1,
-            &[(0, 3, 0, 10, &[0, 1]), (3, 10, 0, 10, &[2])],
-        ),
-        // the first point alone has half of the area, and is the last by number
-        (
-            (10, 10),
-            &[1, 1, 4],
-            &[3, 2, 1],
-            &[0, 0, 0],
-            1,
-            &[(0, 6, 0, 10, &[2]), (6, 10, 0, 10, &[0, 1])],
-        ),
-        // the y side is longer, and its mids count
-        (
-            (9, 10),
-            &[1, 1],
-            &[0, 9],
-            &[9, 0],
-            1,
-            &[(0, 9, 0, 5, &[1]), (0, 9, 5, 10, &[0])],
-        ),
-        // without area the side is halved, rounded down
-        (
-            (5, 0),
-            &[0, 0, 0],
-            &[1, 2, 3],
-            &[0, 0, 0],
-            1,
-            &[(0, 2, 0, 0, &[0]), (2, 5, 0, 0, &[1, 2])],
-        ),
-        // a region without sides stays, and so does one with a single point, or none
-        (
-            (0, 0),
-            &[1, 1],
-            &[0, 0],
-            &[0, 0],
-            2,
-            &[(0, 0, 0, 0, &[0, 1])],
-        ),
-        ((9, 9), &[7], &[1], &[1], 2, &[(0, 9, 0, 9, &[0])]),
-        ((9, 9), &[], &[], &[], 2, &[(0, 9, 0, 9, &[])]),
-        // the parts of each region stand in its place
-        (
-            (8, 8),
-            &[1, 1, 1, 1],
-            &[1, 1, 5, 5],
-            &[5, 1, 1, 5],
-            2,
-            &[
-                (0, 4, 0, 4, &[1]),
-                (0, 4, 4, 8, &[0]),
-                (4, 8, 0, 4, &[2]),
-                (4, 8, 4, 8, &[3]),
-            ],
-        ),
-    ];
-    for (ends, areas, xs, ys, times, rows) in cases {
+    for (ends, areas, xs, ys, times, rows) in CUTS {
         assert!(rt; areas.len() <= 4 && xs.len() == areas.len() && ys.len() == areas.len());
         assert!(rt; is_light(areas));
         are(

@@ -1,9 +1,7 @@
 -- Movable nodes that are higher than a row, and how many pins there are.
-use Rattle.std.proofs.Common.{◌≡◌, ℕ, ◌+◌, ◌<◌, ◌≤◌, ◌^◌, ◌<ℤ◌, ℤ, false, List, length, map, take, get_or, refl, sym, ap, ◌∙◌, subst, arith, Option, Some, None, [], ◌∷◌, inl, inr}
+use Rattle.std.proofs.Common.{◌≡◌, ℕ, ◌<◌, ◌≤◌, ◌<ℤ◌, ℤ, false, List, length, map, get_or, refl, sym, ap, ◌∙◌, subst, arith, Option, Some, None, inl, inr}
 use Rattle.std.proofs.lemmas.List.{get_or-map, length-map}
 use Rattle.std.proofs.lemmas.List.Concat.{length-flat_map}
-use Rattle.std.proofs.lemmas.List.Sums.{sum_by_more, sum_by_more_le}
-use Rattle.std.specs.Prelude.{sum_by, fold}
 use Rattle.book_files.specs.Entries.{NodeEntry, PlaceEntry, NetEntry}
 use Rattle.book_files.specs.Ranges.{pin_count}
 use Rattle.book_design.specs.declared.rules.TheConstants.{MOST_NODES, MOST_PINS, MOST_SUBROWS}

@@ -1,5 +1,5 @@
 -- Faults by their ranks.
-use Rattle.std.proofs.Common.{◌≡◌, ℕ, ◌+◌, ◌<◌, ◌≤◌, inl, inr, subst, refl, ⊎_elim, arith, length, zero, suc, Result, Ok, Err, MatchResult}
+use Rattle.std.proofs.Common.{◌≡◌, ℕ, ◌+◌, ◌<◌, ◌≤◌, inl, inr, refl, ⊎_elim, arith, length, zero, suc, Result, Ok, Err, MatchResult}
 use Rattle.std.proofs.lemmas.Bool.{cases_lt}
 use Rattle.book_files.specs.declared.records.FileKind.TheVariants as kinds
 use Rattle.book_design.specs.declared.fault.DesignFault.{DesignFault}

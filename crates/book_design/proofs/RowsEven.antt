@@ -2,7 +2,7 @@
 use Rattle.std.proofs.Common.{◌≡◌, ℕ, ◌<◌, Bool, true, false, List, length, get_or, refl, sym, ap, ◌∙◌, subst, arith, ℤ, ◌⊎◌, inl, inr, pos, []}
 use Rattle.std.specs.Ordering.{int_eq}
 use Rattle.std.proofs.lemmas.Bool.Decides.{Decides-int_eq}
-use Rattle.std.proofs.lemmas.List.{get_or-map, length-map}
+use Rattle.std.proofs.lemmas.List.{length-map}
 use Rattle.book_design.specs.declared.strips.Strip.{Strip as Kept}
 use Rattle.book_design.specs.declared.fault.DesignFault.TheVariants.{NoRows, MixedRows, RowsOverlap}
 use Rattle.book_design.specs.Joined.{HasSite}

@@ -1,7 +1,7 @@
 -- The subrows of the rows, laid one row after the other.
 use Rattle.std.proofs.Common.{◌≡◌, ℕ, ◌+◌, ◌<◌, ◌≤◌, List, [], ◌∷◌, ◌++◌, length, map, take, drop, get_or, refl, sym, ap, ◌∙◌, append_assoc, suc, zero, arith, subst}
 use Rattle.std.proofs.Math.Seq.{drop-cons}
-use Rattle.std.proofs.lemmas.List.{drop_all, map-append, map_more, take_all}
+use Rattle.std.proofs.lemmas.List.{map-append, map_more, take_all}
 use Rattle.std.specs.List.{AllByRecursion}
 use Rattle.book_files.specs.Entries.{RowEntry}
 use Rattle.book_design.specs.declared.strips.Strip.{Strip as Kept}

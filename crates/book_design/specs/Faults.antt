@@ -1,5 +1,5 @@
 -- The faults of a design, each where it holds and at its first place, and which of them is the first.
-use Rattle.std.specs.Prelude.{◌≡◌, ◌≢◌, ◌⊎◌, ℕ, ◌*◌, ◌+◌, ◌<◌, ◌≤◌, ◌^◌, true, false, List, length, ℤ, pos, ◌<ℤ◌, ◌+ℤ◌}
+use Rattle.std.specs.Prelude.{◌≡◌, ◌≢◌, ◌⊎◌, ℕ, ◌*◌, ◌+◌, ◌<◌, ◌≤◌, true, false, List, length, ℤ, pos, ◌<ℤ◌, ◌+ℤ◌}
 use Rattle.book_files.specs.declared.records.FileKind.TheVariants.{Nets, Pl}
 use Rattle.book_design.specs.declared.rules.TheConstants.{MOST_NODES, MOST_PINS, MOST_SUBROWS, MOST_SITES, MOST_NET_WEIGHT, ROWS_END}
 use Rattle.book_design.specs.declared.fault.DesignFault.{DesignFault}

@@ -1,5 +1,5 @@
 -- The numbers of the records are in range.
-use Rattle.std.proofs.Common.{ℕ, ◌^◌, ◌≤◌, Bool, true, false, List, cond, nat_le, ℤ, pos, neg_ℤ, int_lt, ◌≤ℤ◌, Result, Ok, Err, IfOk, arith}
+use Rattle.std.proofs.Common.{ℕ, ◌≤◌, Bool, true, false, List, cond, nat_le, ℤ, pos, neg_ℤ, int_lt, ◌≤ℤ◌, Result, Ok, Err, IfOk, arith}
 use Rattle.std.proofs.lemmas.Bool.{cond_both, leb-true}
 use Rattle.std.proofs.lemmas.Int.{ints}
 use Rattle.book_text.specs.declared.decimal.TheConstants.{MOST_MICRO}

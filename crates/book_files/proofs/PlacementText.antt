@@ -1,5 +1,5 @@
 -- A reader of a placement's text gives the places back, by the laws of spaced words and of canonical decimals.
-use Rattle.std.proofs.Common.{◌≡◌, ◌≢◌, ℕ, ◌+◌, ◌-◌, ◌^◌, ◌<◌, Bool, true, false, List, [], ◌∷◌, ◌++◌, length, map, flat_map, codes, Some, Ok, slice_index, ℤ, pos, neg_ℤ, ◌≤ℤ◌, refl, sym, ap, append_assoc, inl, inr, arith, subst}
+use Rattle.std.proofs.Common.{◌≡◌, ◌≢◌, ℕ, ◌+◌, ◌-◌, ◌<◌, Bool, true, false, List, [], ◌∷◌, ◌++◌, length, map, flat_map, codes, Some, Ok, slice_index, ℤ, pos, neg_ℤ, ◌≤ℤ◌, refl, sym, ap, append_assoc, inl, inr, arith, subst}
 use Rattle.std.specs.List.{All, AllByRecursion, list_all, filter_map}
 use Rattle.std.proofs.lemmas.List.Elements.{All-from_recursion}
 use Rattle.book_text.specs.declared.decimal.TheConstants.{MOST_MICRO}

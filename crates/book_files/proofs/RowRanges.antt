@@ -1,5 +1,5 @@
 -- The numbers of a rows file are in range.
-use Rattle.std.proofs.Common.{◌≡◌, ℕ, ◌^◌, ◌≤◌, Bool, true, false, List, [], ◌∷◌, ◌++◌, cond, nat_le, pos, int_lt, ℤ, Option, Some, None, Result, Ok, Err, IfOk, refl, arith}
+use Rattle.std.proofs.Common.{◌≡◌, ℕ, ◌≤◌, Bool, true, false, List, [], ◌∷◌, ◌++◌, cond, nat_le, pos, int_lt, ℤ, Option, Some, None, Result, Ok, Err, IfOk, refl, arith}
 use Rattle.std.specs.Option.{IfSome}
 use Rattle.std.specs.List.{AllByRecursion}
 use Rattle.std.proofs.lemmas.Bool.{cond_both, leb-true}

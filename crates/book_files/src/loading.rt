@@ -4,7 +4,7 @@ ghost use Rattle.std.specs.Prelude.{◌≡◌, ◌≤◌, Some, Err, IfOk, IfSom
 ghost use Rattle.book_outer.specs.Cause.{one_more};
 ghost use Rattle.book_outer.specs.Files.{content};
 ghost use Rattle.book_outer.specs.Folder.{missed_after};
-ghost use Rattle.book_files.specs.Loading.{error_of, HasLongText, HasReadCause, HasTaken, HasFewReads};
+ghost use Rattle.book_files.specs.Loading.{error_of, HasLongText, HasReadCause, HasTaken, HasFewReads, IsLongerThan, HasTakenWithin, HasFewReadsWithin};
 ghost use Rattle.book_files.specs.declared.loading.LoadError.TheVariants.{Memory};
 
 use book_outer::{Folder, Trouble};
@@ -71,6 +71,28 @@ pub fn load<F: Folder>(alloc: Global, folder: &mut F, name: &str) -> Result<Vec<
     ensures writing { (F.state folder.new).writing ≡ (F.state folder.old).writing }
     ensures write_faults { (F.state folder.new).write_faults ≡ (F.state folder.old).write_faults }
 {
+    load_within(alloc, folder, name, MOST_BYTES)
+}
+
+/// The whole file, of at most so many bytes, read in pieces.
+pub fn load_within<F: Folder>(
+    alloc: Global,
+    folder: &mut F,
+    name: &str,
+    most: usize,
+) -> Result<Vec<u8>, LoadError>
+    ensures loaded { IfOk result (λ bytes. IfSome ((F.state folder.old).files) (λ files. content files name.now ≡ Some bytes.items)) }
+    ensures within { IfOk result (λ bytes. vec_len bytes ≤ most) }
+    ensures too_long { result ≡ Err LoadError.TooLong → IfSome ((F.state folder.old).files) (λ files. IsLongerThan most files name.now) }
+    ensures taken { HasTakenWithin most (λ bytes. vec_len bytes) ((F.state folder.old).files) name.now result ((F.state folder.new).reading) }
+    ensures cause { HasReadCause ((F.state folder.old).read_faults) ((F.state folder.new).read_faults) result }
+    ensures begun { (F.state folder.new).begun ≡ one_more ((F.state folder.old).begun) }
+    ensures missed { (F.state folder.new).missed ≡ missed_after ((F.state folder.old).files) name.now ((F.state folder.old).missed) }
+    ensures reads { HasFewReadsWithin most (λ bytes. vec_len bytes) (F.state folder.old).reads (F.state folder.new).reads result }
+    ensures files { (F.state folder.new).files ≡ (F.state folder.old).files }
+    ensures writing { (F.state folder.new).writing ≡ (F.state folder.old).writing }
+    ensures write_faults { (F.state folder.new).write_faults ≡ (F.state folder.old).write_faults }
+{
     folder.begin(name)?;
     let mut piece = room(alloc, PIECE_BYTES)?;
     let mut bytes = Vec::new(alloc);
@@ -80,7 +102,7 @@ pub fn load<F: Folder>(alloc: Global, folder: &mut F, name: &str) -> Result<Vec<
             return Ok(bytes);
         }
         bytes.extend_from_slice(&piece[..count])?;
-        if bytes.len() > MOST_BYTES {
+        if bytes.len() > most {
             return Err(LoadError::TooLong);
         }
     }

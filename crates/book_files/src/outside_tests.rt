@@ -3,6 +3,7 @@
 ghost use Rattle.std.specs.Prelude.{IfOk};
 ghost use Rattle.book_outer.specs.Files.{AreNamesDistinct};
 
+use crate::loading::load_within;
 use crate::{LoadError, Name, Orient, PlaceLine, load, write_pl};
 use book_outer::{Calls, CalmFolder, Files, Folder, MemFolder};
 use book_text::{Memory, Micro};
@@ -53,6 +54,17 @@ fn a_read_that_fails_is_named(rt: HostRuntime) {
     let mut folder = MemFolder::new(files, failing);
     assert!(rt; is_refused(rt.alloc(), &mut folder, "a", LoadError::ReadFault));
     assert!(rt; is_loaded(rt.alloc(), &mut folder, "a", b"twelve bytes"));
+}
+
+#[test]
+fn a_file_with_one_byte_too_many_is_too_long(rt: HostRuntime) {
+    let mut files = Files::new(rt.alloc());
+    files.push("a", b"12345").expect(&rt, "a file");
+    let mut folder = MemFolder::new(files, Calls::new(rt.alloc()));
+    let whole = load_within(rt.alloc(), &mut folder, "a", 5).expect(&rt, "five bytes");
+    assert!(rt; whole.as_slice() == b"12345".as_slice());
+    let cut = load_within(rt.alloc(), &mut folder, "a", 4);
+    assert!(rt; matches!(cut, Err(LoadError::TooLong)));
 }
 
 #[test]

@@ -1,5 +1,5 @@
 -- What is known of the points passed so far, and the verdict that it leads to.
-use Rattle.std.proofs.Common.{◌≡◌, ℕ, ◌+◌, ◌<◌, List, length, max, below_more, subst, arith}
+use Rattle.std.proofs.Common.{◌≡◌, ℕ, ◌+◌, ◌<◌, List, length, max, below_more, subst}
 use Rattle.relax_system.specs.declared.points.Point.{Point}
 use Rattle.relax_system.specs.System.{IsValid}
 use Rattle.relax_system.specs.Means.{IsFloorFixed, IsCeilFixed}
@@ -8,7 +8,7 @@ use Rattle.fix_cert.specs.declared.reading.Reading.{Reading}
 use Rattle.fix_cert.specs.declared.verdict.Side2.{Side2}
 use Rattle.fix_cert.specs.Verdict.{HoldsLower, HoldsUpper, HoldBefore, FailsAt, IsFirstBroken, IsMost, IsMostOfBoth, IsEnclosing, gap_at, lower_residual, upper_residual}
 use Rattle.fix_cert.specs.Forms.Reading.{IsReading}
-use Rattle.fix_cert.proofs.Mosts.{no_most, one_more, no_most_of_both, one_more_of_both}
+use Rattle.fix_cert.proofs.Mosts.{one_more, one_more_of_both}
 
 -- the equations of the first points hold, with their greatest gap and their greatest residual
 pub record IsSoFar (points : List Point) (lo hi : List ℕ) (passed gap worst : ℕ) : Type 0 where

@@ -4,6 +4,7 @@ use Rattle.std.specs.Prelude.{map, sum_by, filter}
 use Rattle.std.proofs.Math.Nat.{mul-le-mul_left, mul-le-mul_right, add-mul}
 use Rattle.std.proofs.lemmas.List.Sums.{sum_by-cons}
 use Rattle.std.proofs.lemmas.List.Filters.{sum_by-filter_both}
+use Rattle.relax_system.specs.declared.valid.TheConstants.{MOST_COORDINATE}
 use Rattle.area_cut.specs.declared.axis.Axis.{Axis}
 use Rattle.area_cut.specs.declared.axis.Axis.TheVariants.{X, Y}
 use Rattle.area_cut.specs.declared.region.Region.{Region}
@@ -15,7 +16,7 @@ use Rattle.relax_system.specs.System.{near_weight}
 use Rattle.level_run.specs.Forms.Projection.{IsRange}
 use Rattle.level_run.specs.LevelSystem.{clamped, is_inside, inside, outside, as_neighbour, near_pull, pin_pull, stand_of, coordinate, place_of}
 
-pub range_of : (axis : Axis) (region : Region) → IsGood region → IsWithin 2000000000000 region → IsRange axis region
+pub range_of : (axis : Axis) (region : Region) → IsGood region → IsWithin MOST_COORDINATE region → IsRange axis region
 range_of X region good within = record { ordered = good.wide; limit = within.x }
 range_of Y region good within = record { ordered = good.high; limit = within.y }
 

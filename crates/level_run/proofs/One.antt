@@ -5,6 +5,7 @@ use Rattle.std.specs.List.{range_with_len}
 use Rattle.std.proofs.lemmas.Bool.{cases_lt}
 use Rattle.std.proofs.lemmas.List.{ext_get_or, length_push, get_or_append_left, get_or_push, get_or_default}
 use Rattle.std.proofs.lemmas.List.FromFn.{length-map-range_with_len}
+use Rattle.relax_system.specs.declared.valid.TheConstants.{MOST_COORDINATE}
 use Rattle.pad_reach.specs.Chain.{HasChain}
 use Rattle.relax_system.specs.declared.points.Point.{Point}
 use Rattle.relax_system.specs.System.{IsValid, joints_of as joints_of_system}
@@ -48,16 +49,16 @@ mid_length axis network regions mids solve is =
     let many = length-map-range_with_len (λ (i : ℕ). (get_or solve.lo i 0 + get_or solve.hi i 0) / 2) 0 (length solve.lo) in
     ap length is.mid ∙ many ∙ is.lo.in_boxes.all ∙ length_system axis network regions mids
 
-pub level_sane : (network : NetworkValue) (regions : List Region) (xs ys : List ℕ) (level : Level) → AreShares (length network.points) 2000000000000 regions → IsLevel network regions xs ys level → IsSane network level
+pub level_sane : (network : NetworkValue) (regions : List Region) (xs ys : List ℕ) (level : Level) → AreShares (length network.points) MOST_COORDINATE regions → IsLevel network regions xs ys level → IsSane network level
 level_sane network regions xs ys level shares is = record {
-  shares = subst (λ (rs : List Region). AreShares (length network.points) 2000000000000 rs) (sym is.regions) shares;
+  shares = subst (λ (rs : List Region). AreShares (length network.points) MOST_COORDINATE rs) (sym is.regions) shares;
   xs = mid_length X network regions xs level.x is.x;
   ys = mid_length Y network regions ys level.y is.y;
 }
 
 pub next_sane : (share : (points limit : ℕ) (areas xs ys : List ℕ) (regions : List Region) → AreShares points limit regions → AreShares points limit (cut_of areas xs ys regions)) (network : NetworkValue) (level next : Level) → IsSane network level → IsNext network level next → IsSane network next
 next_sane share network level next sane is =
-    level_sane network (next_regions network level) level.x.mid level.y.mid next (share (length network.points) 2000000000000 (areas_of network) level.x.mid level.y.mid level.regions sane.shares) is
+    level_sane network (next_regions network level) level.x.mid level.y.mid next (share (length network.points) MOST_COORDINATE (areas_of network) level.x.mid level.y.mid level.regions sane.shares) is
 
 abbrev solve_of : List ℕ → List ℕ → List ℕ → Solve
 solve_of lo hi mid = record { lo = lo; hi = hi; mid = mid }
@@ -106,8 +107,8 @@ one_level_more network count levels next d is step = record {
       subst (λ (a : Level). IsNext network a (get_or (levels ++ next ∷ []) (k + 1) e)) (sym level) (subst (λ (b : Level). IsNext network (get_or levels count d) b) (sym last) step)
 
 module _ (share : (points limit : ℕ) (areas xs ys : List ℕ) (regions : List Region) → AreShares points limit regions → AreShares points limit (cut_of areas xs ys regions)) (network : NetworkValue) (net : IsNet network) where
-  pub next_shares : (level : Level) → IsSane network level → AreShares (length network.points) 2000000000000 (next_regions network level)
-  next_shares level sane = share (length network.points) 2000000000000 (areas_of network) level.x.mid level.y.mid level.regions sane.shares
+  pub next_shares : (level : Level) → IsSane network level → AreShares (length network.points) MOST_COORDINATE (next_regions network level)
+  next_shares level sane = share (length network.points) MOST_COORDINATE (areas_of network) level.x.mid level.y.mid level.regions sane.shares
 
   pub sane_at : (count : ℕ) (levels : List Level) → IsLevels network count levels → (k : ℕ) (d : Level) → k < length levels → IsSane network (get_or levels k d)
   sane_at count levels is zero d inside = level_sane network (core_region network ∷ []) (no_mids network) (no_mids network) (get_or levels 0 d) (core_shares network net) (is.first d)
@@ -118,17 +119,17 @@ module _ (share : (points limit : ℕ) (areas xs ys : List ℕ) (regions : List 
       next_sane share network (get_or levels k d) (get_or levels (suc k) d) before step
 
 module _ (laws : Laws) (network : NetworkValue) (net : IsNet network) (chains : HasChains network) where
-  valid_with : (axis : Axis) (regions : List Region) (mids : List ℕ) → AreShares (length network.points) 2000000000000 regions → IsValid (level_system axis network regions mids)
+  valid_with : (axis : Axis) (regions : List Region) (mids : List ℕ) → AreShares (length network.points) MOST_COORDINATE regions → IsValid (level_system axis network regions mids)
   valid_with axis regions mids shares = system_is_valid axis network regions mids net (laws.homes (length network.points) regions shares.partition) shares.good shares.within chains
 
-  same_level : (regions : List Region) (xs ys : List ℕ) (a b : Level) → AreShares (length network.points) 2000000000000 regions → IsLevel network regions xs ys a → IsLevel network regions xs ys b → a ≡ b
+  same_level : (regions : List Region) (xs ys : List ℕ) (a b : Level) → AreShares (length network.points) MOST_COORDINATE regions → IsLevel network regions xs ys a → IsLevel network regions xs ys b → a ≡ b
   same_level regions xs ys a b shares one other =
       let x = same_solve laws (level_system X network regions xs) a.x b.x (valid_with X regions xs shares) one.x other.x in
       let y = same_solve laws (level_system Y network regions ys) a.y b.y (valid_with Y regions ys shares) one.y other.y in
       let rs : a.regions ≡ b.regions = one.regions ∙ sym other.regions in
       ap (λ (r : List Region). level_of r a.x a.y) rs ∙ ap (λ (s : Solve). level_of b.regions s a.y) x ∙ ap (λ (s : Solve). level_of b.regions b.x s) y
 
-  level_there : (regions : List Region) (xs ys : List ℕ) → AreShares (length network.points) 2000000000000 regions → (level : Level) × IsLevel network regions xs ys level
+  level_there : (regions : List Region) (xs ys : List ℕ) → AreShares (length network.points) MOST_COORDINATE regions → (level : Level) × IsLevel network regions xs ys level
   level_there regions xs ys shares =
       let x = solve_there laws (level_system X network regions xs) (valid_with X regions xs shares) in
       let y = solve_there laws (level_system Y network regions ys) (valid_with Y regions ys shares) in

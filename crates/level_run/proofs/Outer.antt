@@ -9,6 +9,8 @@ use Rattle.std.proofs.lemmas.List.Elements.{filter_more, recursion_from_All, All
 use Rattle.std.proofs.lemmas.List.Filters.{sum_by-filter_both}
 use Rattle.std.proofs.lemmas.List.Sums.{sum_by_push, sum_by-take-le, passes_at_first}
 use Rattle.std.proofs.lemmas.Map.Views.{Contains-from_any}
+use Rattle.relax_system.specs.declared.valid.TheConstants.{MOST_COORDINATE}
+use Rattle.net_model.specs.declared.limits.TheConstants.{MOST_WEIGHT}
 use Rattle.area_cut.specs.declared.axis.Axis.{Axis}
 use Rattle.area_cut.specs.declared.region.Region.{Region}
 use Rattle.area_cut.specs.Regions.{low_end, high_end, HaveHomes, no_region, has_point, home_of, region_of}
@@ -94,16 +96,16 @@ outer_pull axis regions mids p near i d in_near elsewhere =
     ap (sum_by f) (outer_takes regions p near i d in_near elsewhere) ∙ sum_by_push f (outside regions p (take i near)) (get_or near i d)
 
 pub record IsSmall (total sum : ℕ) : Type 0 where
-  pub weight : total ≤ 2 ^ 40
-  pub pull : sum ≤ 2 ^ 40 * 2000000000000
+  pub weight : total ≤ MOST_WEIGHT
+  pub pull : sum ≤ MOST_WEIGHT * MOST_COORDINATE
 
-small : (weight low high pull : ℕ) → weight ≤ 2 ^ 40 → high ≤ 2000000000000 → pull ≤ weight * high → IsSmall weight pull
+small : (weight low high pull : ℕ) → weight ≤ MOST_WEIGHT → high ≤ MOST_COORDINATE → pull ≤ weight * high → IsSmall weight pull
 small weight low high pull light limit at = record {
   weight = light;
-  pull = omega (arith, mul-le-mul_right high light, mul-le-mul_left (2 ^ 40) limit);
+  pull = omega (arith, mul-le-mul_right high light, mul-le-mul_left MOST_WEIGHT limit);
 }
 
-pub outer_small : (axis : Axis) (regions : List Region) (mids : List ℕ) (p : ℕ) (near : List Near) (j : ℕ) → IsRange axis (region_of regions p) → sum_by (λ n. n.weight) near ≤ 2 ^ 40
+pub outer_small : (axis : Axis) (regions : List Region) (mids : List ℕ) (p : ℕ) (near : List Near) (j : ℕ) → IsRange axis (region_of regions p) → sum_by (λ n. n.weight) near ≤ MOST_WEIGHT
     → IsSmall (sum_by (λ n. n.weight) (outside regions p (take j near))) (near_pull axis regions mids (region_of regions p) (outside regions p (take j near)))
 outer_small axis regions mids p near j range light =
     let part = sum_by-take-le (λ (n : Near). n.weight) near j in
@@ -111,7 +113,7 @@ outer_small axis regions mids p near j range light =
     let pulls = near_pulls axis regions mids (region_of regions p) (outside regions p (take j near)) range in
     small _ (low_end axis (region_of regions p)) (high_end axis (region_of regions p)) _ (omega arith) range.limit pulls.high
 
-pub pins_small : (axis : Axis) (region : Region) (pins : List FixedPin) (j : ℕ) → IsRange axis region → sum_by (λ pin. pin.weight) pins ≤ 2 ^ 40
+pub pins_small : (axis : Axis) (region : Region) (pins : List FixedPin) (j : ℕ) → IsRange axis region → sum_by (λ pin. pin.weight) pins ≤ MOST_WEIGHT
     → IsSmall (sum_by (λ pin. pin.weight) (take j pins)) (pin_pull axis region (take j pins))
 pins_small axis region pins j range light =
     let part = sum_by-take-le (λ (pin : FixedPin). pin.weight) pins j in
@@ -137,13 +139,13 @@ stands_at axis points regions homes mids p q own other stand at right p_there q_
     at_is ∙ ap (λ (r : Region). clamped axis r stand) (region_is points regions homes p own right p_there own_is)
     ∙ ap (clamped axis (region_of regions p)) (stand_is ∙ ap (λ (r : Region). clamped axis r (get_or mids q 0)) (region_is points regions homes q other right q_there other_is))
 
-pub outer_whole : (axis : Axis) (regions : List Region) (mids : List ℕ) (p : ℕ) (near : List Near) → IsRange axis (region_of regions p) → sum_by (λ n. n.weight) near ≤ 2 ^ 40
+pub outer_whole : (axis : Axis) (regions : List Region) (mids : List ℕ) (p : ℕ) (near : List Near) → IsRange axis (region_of regions p) → sum_by (λ n. n.weight) near ≤ MOST_WEIGHT
     → IsSmall (sum_by (λ n. n.weight) (outside regions p near)) (near_pull axis regions mids (region_of regions p) (outside regions p near))
 outer_whole axis regions mids p near range light =
     let P = λ (ns : List Near). IsSmall (sum_by (λ (n : Near). n.weight) (outside regions p ns)) (near_pull axis regions mids (region_of regions p) (outside regions p ns)) in
     subst P (take_all (length near) near (omega arith)) (outer_small axis regions mids p near (length near) range light)
 
-pub pins_whole : (axis : Axis) (region : Region) (pins : List FixedPin) → IsRange axis region → sum_by (λ pin. pin.weight) pins ≤ 2 ^ 40 → IsSmall (sum_by (λ pin. pin.weight) pins) (pin_pull axis region pins)
+pub pins_whole : (axis : Axis) (region : Region) (pins : List FixedPin) → IsRange axis region → sum_by (λ pin. pin.weight) pins ≤ MOST_WEIGHT → IsSmall (sum_by (λ pin. pin.weight) pins) (pin_pull axis region pins)
 pins_whole axis region pins range light =
     let P = λ (ps : List FixedPin). IsSmall (sum_by (λ (pin : FixedPin). pin.weight) ps) (pin_pull axis region ps) in
     subst P (take_all (length pins) pins (omega arith)) (pins_small axis region pins (length pins) range light)

@@ -6,6 +6,7 @@ use Rattle.std.proofs.lemmas.Bool.{eqb-true}
 use Rattle.std.proofs.lemmas.List.{length-map}
 use Rattle.std.proofs.lemmas.List.Elements.{All-from_recursion, All-get_or}
 use Rattle.std.proofs.lemmas.List.Sums.{get_or-le-sum_by}
+use Rattle.relax_system.specs.declared.valid.TheConstants.{MOST_COORDINATE}
 use Rattle.pad_reach.specs.Chain.{Joint, joint_at, IsNeighbour, IsAnchored, IsChain, HasChain}
 use Rattle.area_cut.specs.declared.axis.Axis.{Axis}
 use Rattle.area_cut.specs.declared.region.Region.{Region}
@@ -44,11 +45,11 @@ chain_weighs network p (q ∷ rest) net there chain = let some = near_weighs net
 pub has_weight : (network : NetworkValue) (p : ℕ) → IsNet network → p < length network.points → HasChain (joints_of network) p → 1 ≤ total_weight (point_at network.points p)
 has_weight network p net there chain = chain_weighs network p chain.0 net there chain.1
 
-module _ (axis : Axis) (network : NetworkValue) (regions : List Region) (mids : List ℕ) (net : IsNet network) (homes : HaveHomes (length network.points) regions) (good : AreGood regions) (within : AreWithin 2000000000000 regions) where
+module _ (axis : Axis) (network : NetworkValue) (regions : List Region) (mids : List ℕ) (net : IsNet network) (homes : HaveHomes (length network.points) regions) (good : AreGood regions) (within : AreWithin MOST_COORDINATE regions) where
   range_at : (p : ℕ) → p < length network.points → IsRange axis (region_of regions p)
   range_at p there =
       let home = homes.there p there in
-      range_of axis (region_of regions p) (All-get_or IsGood regions (home_of regions p) no_region home good) (All-get_or (IsWithin 2000000000000) regions (home_of regions p) no_region home within)
+      range_of axis (region_of regions p) (All-get_or IsGood regions (home_of regions p) no_region home good) (All-get_or (IsWithin MOST_COORDINATE) regions (home_of regions p) no_region home within)
 
   near_valid : (p : ℕ) (n : Near) → p < length network.points → IsGoodNear (length network.points) p n → is_inside regions p n ≡ true → IsValidNear (level_system axis network regions mids) p (as_neighbour n)
   near_valid p n there fine here =

@@ -1,6 +1,7 @@
 -- The system of a network on an axis, where each point has the range of its region.
 use Rattle.std.specs.Prelude.{ℕ, ◌+◌, ◌*◌, ◌^◌, Bool, not, ◌==◌, List, length, map, filter, sum_by, slice_index, min, max, ℤ, pos, negsuc, ◌+ℤ◌}
 use Rattle.std.specs.List.{range_with_len}
+use Rattle.book_text.specs.declared.decimal.TheConstants.{MOST_MICRO}
 use Rattle.relax_system.specs.declared.points.Near.{Near as Neighbour}
 use Rattle.relax_system.specs.declared.points.Point.{Point}
 use Rattle.area_cut.specs.declared.axis.Axis.{Axis}
@@ -25,9 +26,9 @@ abbrev pub from_zero : ℤ → ℕ
 from_zero (pos n) = n
 from_zero (negsuc n) = 0
 
--- a place in millionths as a coordinate: shifted by 1,000,000,000,000; what is still below 0 is below every region
+-- a place in millionths as a coordinate: shifted by the greatest number of millionths; what is still below 0 is below every region
 abbrev pub coordinate : ℤ → ℕ
-coordinate at = from_zero (at +ℤ pos (10 ^ 12))
+coordinate at = from_zero (at +ℤ pos MOST_MICRO)
 
 -- the neighbour stands in the point's own region
 abbrev pub is_inside : List Region → ℕ → Near → Bool

@@ -1,6 +1,7 @@
 //! The levels of a network: the chip is cut over and over, and each level is solved against the one before.
 
 ghost use Rattle.std.specs.Prelude.{◌≡◌, ℕ, ◌+◌, ◌^◌, ◌<◌, ◌≤◌, ◌∷◌, [], length, map, replicate, slice_index, sum, IfOk};
+ghost use Rattle.relax_system.specs.declared.valid.TheConstants.{MOST_COORDINATE};
 ghost use Rattle.pad_reach.specs.Reaches.{Reaches};
 ghost use Rattle.area_cut.specs.Regions.{AreShares};
 ghost use Rattle.relax_crew.specs.Crew.{IsCrewSize};
@@ -146,7 +147,7 @@ fn solved<R: Threads + Sync, G: Gate>(
     ys: &[u64],
 ) -> Result<Level, Memory>
     requires chains { HasChains network.now }
-    requires shares { AreShares (length network.now.points) 2000000000000 regions }
+    requires shares { AreShares (length network.now.points) MOST_COORDINATE regions }
     requires xs { length xs.now ≡ length network.now.points }
     requires ys { length ys.now ≡ length network.now.points }
     ensures { IfOk result (IsLevel network.now regions xs.now ys.now) }

@@ -1,6 +1,7 @@
 //! Laws of levels. Each is the contract of a function that does nothing.
 
 ghost use Rattle.std.specs.Prelude.{◌≡◌, ℕ, ◌<◌, ◌≤◌, List, [], ◌∷◌, length};
+ghost use Rattle.relax_system.specs.declared.valid.TheConstants.{MOST_COORDINATE};
 ghost use Rattle.pad_reach.specs.Chain.{HasChain};
 ghost use Rattle.relax_system.specs.System.{IsValid, joints_of as system_joints};
 ghost use Rattle.area_cut.specs.declared.axis.Axis.{Axis};
@@ -21,7 +22,7 @@ pub fn chains_stay()
     ensures chains { (axis : Axis) (network : NetworkValue) (regions : List Region) (mids : List ℕ) (p : ℕ) → IsNet network
         → p < length network.points → HasChain (joints_of network) p → HasChain (system_joints (level_system axis network regions mids)) p }
     ensures valid { (axis : Axis) (network : NetworkValue) (regions : List Region) (mids : List ℕ) → IsNet network → HasChains network
-        → AreShares (length network.points) 2000000000000 regions → IsValid (level_system axis network regions mids) }
+        → AreShares (length network.points) MOST_COORDINATE regions → IsValid (level_system axis network regions mids) }
 {
     points_have_homes();
 }

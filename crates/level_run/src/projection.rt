@@ -2,6 +2,8 @@
 
 ghost use Rattle.std.specs.Prelude.{◌≡◌, ℕ, ◌+◌, ◌*◌, ◌^◌, ◌<◌, ◌≤◌, ◌==◌, length, vec_len, map, slice_index, sum_by, filter, nat_eq, if◌then◌else◌, pos, neg_ℤ, ◌≤ℤ◌, IfOk, All};
 ghost use Rattle.std.specs.List.{range_with_len, list_any};
+ghost use Rattle.relax_system.specs.declared.valid.TheConstants.{MOST_COORDINATE};
+ghost use Rattle.net_model.specs.declared.limits.TheConstants.{MOST_WEIGHT};
 ghost use Rattle.pad_reach.specs.Chain.{HasChain};
 ghost use Rattle.area_cut.specs.Regions.{AreWithin, ArePartition, home_of, region_of};
 ghost use Rattle.net_model.specs.WellFormed.{IsGoodPin};
@@ -12,17 +14,14 @@ ghost use Rattle.level_run.specs.Levels.{HasChains};
 ghost use Rattle.level_run.specs.Forms.Projection.{AreHomes, IsRange};
 
 use area_cut::{Axis, Region, Regions, points_have_homes};
-use book_text::Memory;
+use book_text::{MOST_MICRO, Memory};
 use net_model::{FixedPin, Network};
 use relax_system::{Near, NearList, Point, Points, System};
 use std::alloc::Global;
 
-/// What a coordinate is shifted by, so that it isn't negative.
-const SHIFT: i64 = 1_000_000_000_000;
-
 /// The system of a network on an axis, where each point has the range of its region as its box.
 ///
-/// Coordinates are millionths shifted by 1,000,000,000,000, so that none is negative. A point's neighbours in its own region
+/// Coordinates are millionths shifted by `MOST_MICRO`, so that none is negative. A point's neighbours in its own region
 /// are variables. All others are constants, and so are its fixed pins: a neighbour at its mid, clamped to its own region's
 /// range and then to the point's, a fixed pin at its place, clamped to the point's range. `mids` has an entry for each point.
 ///
@@ -36,7 +35,7 @@ pub fn project(
 ) -> Result<System, Memory>
     requires partition { ArePartition (length network.now.points) regions.now }
     requires mids { length mids.now ≡ length network.now.points }
-    requires ends { AreWithin 2000000000000 regions.now }
+    requires ends { AreWithin MOST_COORDINATE regions.now }
     requires chains { HasChains network.now }
     ensures system { IfOk result (λ system. system ≡ level_system axis network.now regions.now mids.now) }
     ensures chains { IfOk result (λ system. (p : ℕ) → p < length system → HasChain (system_joints system) p) }
@@ -84,11 +83,11 @@ fn clamped(axis: Axis, region: &Region, at: u64) -> u64
 
 /// A place in millionths as a coordinate, and 0 where it would be below that.
 pub(crate) fn coordinate(at: i64) -> u64
-    requires low { neg_ℤ (pos (3 * 10 ^ 12)) ≤ℤ at }
-    requires high { at ≤ℤ pos (3 * 10 ^ 12) }
+    requires low { neg_ℤ (pos (3 * MOST_MICRO)) ≤ℤ at }
+    requires high { at ≤ℤ pos (3 * MOST_MICRO) }
     ensures { result ≡ coordinate at }
 {
-    let shifted = at + SHIFT;
+    let shifted = at + MOST_MICRO as i64;
     if shifted < 0 { 0 } else { shifted as u64 }
 }
 
@@ -115,7 +114,7 @@ fn level_point(
     requires there { p < length network.now.points }
     requires homes { AreHomes (length network.now.points) regions.now homes.now }
     requires mids { length mids.now ≡ length network.now.points }
-    requires ends { AreWithin 2000000000000 regions.now }
+    requires ends { AreWithin MOST_COORDINATE regions.now }
     ensures { IfOk result (λ point. point ≡ level_point axis network.now regions.now mids.now p) }
 {
     let regions = regions.as_slice();
@@ -169,7 +168,7 @@ fn outer_constants(
     requires points { All (λ n. n.point < length mids.now) near.now }
     requires homes { AreHomes (length mids.now) regions.now homes.now }
     requires range { IsRange axis (region_of regions.now p) }
-    requires light { sum_by (λ n. n.weight) near.now ≤ 2 ^ 40 }
+    requires light { sum_by (λ n. n.weight) near.now ≤ MOST_WEIGHT }
     ensures anchor { result.0 ≡ sum_by (λ n. n.weight) (outside regions.now p near.now) }
     ensures pull { result.1 ≡ near_pull axis regions.now mids.now (region_of regions.now p) (outside regions.now p near.now) }
 {
@@ -192,7 +191,7 @@ fn outer_constants(
 fn pin_constants(axis: Axis, region: &Region, pins: &[FixedPin]) -> (u64, u128)
     requires good { All IsGoodPin pins.now }
     requires range { IsRange axis region.now }
-    requires light { sum_by (λ pin. pin.weight) pins.now ≤ 2 ^ 40 }
+    requires light { sum_by (λ pin. pin.weight) pins.now ≤ MOST_WEIGHT }
     ensures anchor { result.0 ≡ sum_by (λ pin. pin.weight) pins.now }
     ensures pull { result.1 ≡ pin_pull axis region.now pins.now }
 {

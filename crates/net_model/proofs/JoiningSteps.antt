@@ -3,7 +3,7 @@ use Rattle.std.proofs.Common.{◌≡◌, ℕ, ◌+◌, ◌-◌, ◌*◌, ◌/◌
 use Rattle.std.specs.Prelude.{All, nat_eq, nat_lt}
 use Rattle.std.specs.List.{filter_map}
 use Rattle.std.proofs.lemmas.Bool.{ne_eqb}
-use Rattle.std.proofs.lemmas.List.{append-nil, take_more, take_all, get_or-map, length-map, flat_map_more}
+use Rattle.std.proofs.lemmas.List.{append-nil, take_more, get_or-map, length-map, flat_map_more}
 use Rattle.std.proofs.lemmas.List.Elements.{All-from_recursion}
 use Rattle.book_design.specs.declared.parts.Pin.{Pin}
 use Rattle.book_design.specs.declared.parts.Net.{Net}

@@ -1,6 +1,6 @@
 -- What one net gives a node: its share for each other node, once, and in all no more than `NET_WEIGHT` times its weight.
 use Rattle.std.proofs.Common.{◌≡◌, ◌≢◌, ◌⊎◌, ℕ, zero, suc, ◌+◌, ◌-◌, ◌*◌, ◌/◌, ◌<◌, ◌≤◌, Bool, true, false, not, ◌&&◌, ◌||◌, cond, eqb, ltb, List, [], ◌∷◌, length, refl, sym, ◌∙◌, ap, inl, inr, arith}
-use Rattle.std.specs.Prelude.{Option, None, Some, if◌then◌else◌, ◌==◌, ◌+ℤ◌, sum_by}
+use Rattle.std.specs.Prelude.{None, Some, if◌then◌else◌, ◌+ℤ◌, sum_by}
 use Rattle.std.specs.List.{filter_map, cons_option}
 use Rattle.std.proofs.Math.Nat.{suc-mul, mul-div-le}
 use Rattle.std.proofs.lemmas.Bool.{eqb-true, eqb-false, eq-eqb, ne_eqb, both_ways, cases_lt}

@@ -21,7 +21,7 @@ use Rattle.net_model.specs.Clique.{first_pins, has_node, share, centre_x, centre
 use Rattle.net_model.specs.Network.{node_at, node_of, point_nodes, pair_weight, as_near, pins_in, pins_of, point_value, network_of, total_weight, IsHeavy}
 use Rattle.net_model.specs.Forms.Joining.{paired_pin}
 use Rattle.net_model.specs.Forms.Steps.{pins_by}
-use Rattle.net_model.specs.Values.{PointValue, NetworkValue, point_at}
+use Rattle.net_model.specs.Values.{PointValue, point_at}
 use Rattle.net_model.specs.WellFormed.{IsGoodNear, IsGoodPin, IsGoodPoint, IsNet}
 use Rattle.net_model.proofs.Movable.{no_node, count_movable}
 use Rattle.net_model.proofs.CliqueNodes.{All_first}

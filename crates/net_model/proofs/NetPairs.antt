@@ -1,8 +1,8 @@
 -- The pair terms of a net are its pairs without those of two fixed nodes: each of its nodes is the node of one first pin.
-use Rattle.std.proofs.Common.{◌≡◌, ℕ, zero, suc, ◌+◌, ◌-◌, ◌<◌, ◌≤◌, Bool, true, false, not, ◌||◌, cond, eqb, ltb, List, [], ◌∷◌, length, get_or, refl, sym, ◌∙◌, ap, subst, arith}
-use Rattle.std.specs.Prelude.{◌&&◌, ◌==◌, count_by, filter, All}
-use Rattle.std.specs.List.{list_any, range_with_len}
-use Rattle.std.proofs.lemmas.Bool.{eqb-true, eqb-false}
+use Rattle.std.proofs.Common.{◌≡◌, ℕ, ◌+◌, ◌-◌, ◌<◌, Bool, true, false, not, ◌||◌, cond, eqb, ltb, List, [], ◌∷◌, length, refl, sym, ◌∙◌, ap, arith}
+use Rattle.std.specs.Prelude.{◌&&◌, count_by, filter, All}
+use Rattle.std.specs.List.{range_with_len}
+use Rattle.std.proofs.lemmas.Bool.{eqb-true}
 use Rattle.std.proofs.lemmas.Bool.Decides.{nat_tests}
 use Rattle.std.proofs.lemmas.List.Elements.{All-head, All-tail}
 use Rattle.std.proofs.lemmas.List.Sums.{sum_by-cons}
@@ -16,7 +16,7 @@ use Rattle.net_model.specs.Forms.Joining.{is_at, AreDistinct}
 use Rattle.net_model.specs.Network.{node_at, pairs, fixed_pins, terms_of, terms_in_pairs}
 use Rattle.net_model.proofs.CliqueNodes.{distinct_first, joined_first, first_there}
 use Rattle.net_model.proofs.CountingTerms.{net_there}
-use Rattle.net_model.proofs.PairCounts.{count_split, count_none, count_same, count_one, is_left, all_pairs, pairs_left, no_pairs}
+use Rattle.net_model.proofs.PairCounts.{count_split, count_none, count_same, count_one, all_pairs, pairs_left, no_pairs}
 
 module _ (has : ℕ → Bool) where
   -- one node below n counts where it has the property

@@ -1,5 +1,5 @@
 -- A design has a network or a first fault, and there is one answer.
-use Rattle.std.proofs.Common.{◌≡◌, ◌⊎◌, inl, inr, ℕ, zero, suc, ◌+◌, ◌<◌, ◌≤◌, length, refl, sym, ◌∙◌, ap, arith, add-one, below_more}
+use Rattle.std.proofs.Common.{◌≡◌, ◌⊎◌, inl, inr, ℕ, zero, suc, ◌<◌, ◌≤◌, length, refl, sym, ◌∙◌, ap, arith, add-one, below_more}
 use Rattle.std.proofs.lemmas.Bool.{cases_lt, cases_order}
 use Rattle.book_design.specs.Faults.{IsFirst}
 use Rattle.book_design.specs.Values.{DesignValue}

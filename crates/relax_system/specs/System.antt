@@ -1,5 +1,5 @@
 -- Systems of point equations: boxes, neighbours with weights, anchors.
-use Rattle.std.specs.Prelude.{◌≡◌, ◌≢◌, ℕ, ◌+◌, ◌*◌, ◌^◌, ◌<◌, ◌≤◌, List, [], length, map, sum_by, slice_index_or, All, nat_le}
+use Rattle.std.specs.Prelude.{◌≡◌, ◌≢◌, ℕ, ◌+◌, ◌*◌, ◌<◌, ◌≤◌, List, [], length, map, sum_by, slice_index_or, All, nat_le}
 use Rattle.pad_reach.specs.Chain.{Joint}
 use Rattle.relax_system.specs.declared.points.Near.{Near}
 use Rattle.relax_system.specs.declared.points.Point.{Point}

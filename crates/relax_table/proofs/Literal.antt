@@ -4,18 +4,17 @@ use Rattle.std.specs.List.{slice_index}
 use Rattle.relax_system.specs.declared.side.Side.{Side}
 use Rattle.relax_system.specs.declared.side.Side.TheVariants.{Floor, Ceil}
 use Rattle.relax_system.specs.declared.points.Point.{Point}
-use Rattle.relax_system.specs.Means.{InBoxes, IsPreFixed, IsPostFixed}
+use Rattle.relax_system.specs.Means.{InBoxes}
 use Rattle.relax_system.specs.Extremal.{IsLeast, IsGreatest}
-use Rattle.relax_system.specs.Sides.{AllBefore}
 use Rattle.relax_system.specs.System.{point_at, IsValid}
 use Rattle.relax_system.proofs.Extremes.{extremal_there}
 use Rattle.relax_system.proofs.Sided.{IsLeast-from_extremal, IsGreatest-from_extremal}
-use Rattle.relax_table.specs.Ways.{apart, distance, IsQuietVector, IsQuietIn}
+use Rattle.relax_table.specs.Ways.{apart, distance, IsQuietVector}
 use Rattle.relax_table.proofs.Numbers.{apart-within}
 use Rattle.relax_table.proofs.Distances.{distance-wide}
 use Rattle.relax_table.specs.Seats.{SeatState, IsSound, Advances}
-use Rattle.relax_table.specs.Floor.{IsFloorStart, IsBelowLeast, Rises}
-use Rattle.relax_table.specs.Ceil.{IsCeilStart, IsAboveGreatest, Falls}
+use Rattle.relax_table.specs.Floor.{IsBelowLeast, Rises}
+use Rattle.relax_table.specs.Ceil.{IsAboveGreatest, Falls}
 
 pub pre_fixed_vector : {points : List Point} {u : List ℕ} → IsLeast points u → IsQuietVector Floor points u
 pre_fixed_vector h = record { in_boxes = h.in_boxes; quiet = h.pre_fixed }

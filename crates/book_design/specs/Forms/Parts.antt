@@ -1,5 +1,5 @@
 -- Parts of a design, as the steps of the join make them.
-use Rattle.std.specs.Prelude.{◌≡◌, ◌≢◌, ◌⊎◌, ℕ, ◌/◌, ◌%◌, ◌<◌, ◌==◌, nat_le, List, [], length, map, Option, Some, None, unwrap_or, if◌then◌else◌, ℤ, pos, negsuc, slice_index_or}
+use Rattle.std.specs.Prelude.{◌≡◌, ℕ, ◌/◌, ◌%◌, ◌<◌, ◌==◌, nat_le, List, [], length, map, Option, Some, None, unwrap_or, if◌then◌else◌, ℤ, pos, negsuc, slice_index_or}
 use Rattle.book_files.specs.declared.records.FileKind.TheVariants.{Nets}
 use Rattle.book_files.specs.Entries.{NetEntry, PinEntry}
 use Rattle.book_design.specs.declared.rules.TheConstants.{MOST_NET_WEIGHT}

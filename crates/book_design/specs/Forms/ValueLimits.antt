@@ -1,5 +1,5 @@
 -- What lies past its limit: the sites of a subrow, the weight of a net, the ends of a row.
-use Rattle.std.specs.Prelude.{◌≡◌, ℕ, ◌<◌, ◌^◌, List, length, Option, None, pos, ◌+ℤ◌, ◌<ℤ◌, slice_index_or}
+use Rattle.std.specs.Prelude.{◌≡◌, ℕ, ◌<◌, List, length, Option, None, ◌+ℤ◌, ◌<ℤ◌, slice_index_or}
 use Rattle.book_files.specs.Entries.{RowEntry}
 use Rattle.book_design.specs.declared.rules.TheConstants.{MOST_SITES, ROWS_END}
 use Rattle.book_design.specs.declared.strips.Strip.{Strip as Kept}

@@ -2,6 +2,7 @@ use Rattle.std.proofs.Common.{◌≡◌, ℕ, List, [], ◌∷◌, length, sym, 
 use Rattle.std.proofs.Common.{w64, to_z, of_z, rules}
 use Rattle.std.proofs.lemmas.Int.{to_z-of_z}
 use Rattle.std.specs.List.{range_with_len}
+use Rattle.relax_system.specs.declared.valid.TheConstants.{MOST_COORDINATE}
 use Rattle.book_design.specs.declared.parts.Core.{Core}
 use Rattle.area_cut.specs.declared.region.Region.{Region}
 use Rattle.area_cut.specs.Regions.{AreShares}
@@ -23,4 +24,4 @@ solved-requires-clause-shares g c = λ κs lives.
     let is : c.in_ok-regions.regions ≡ core_region network ∷ [] = c.in_ok-regions.ensures.region ∙ same_region c.core_end.result c.core_end-2.result c.core_end-3.result c.core_end-4.result c.points.result
     (coordinate network.core.xlo) (coordinate network.core.xhi) (coordinate network.core.ylo) (coordinate network.core.yhi) (length network.points)
     (c.core_end.ensures ∙ ap coordinate (to_z-of_z w64 c.core-core.result.xlo (search rules)) ∙ ap (λ (k : Core). coordinate k.xlo) core) (c.core_end-2.ensures ∙ ap coordinate (to_z-of_z w64 c.core-core.result.xhi (search rules)) ∙ ap (λ (k : Core). coordinate k.xhi) core) (c.core_end-3.ensures ∙ ap coordinate (to_z-of_z w64 c.core-core.result.ylo (search rules)) ∙ ap (λ (k : Core). coordinate k.ylo) core) (c.core_end-4.ensures ∙ ap coordinate (to_z-of_z w64 c.core-core.result.yhi (search rules)) ∙ ap (λ (k : Core). coordinate k.yhi) core) c.points.ensures.points in
-    subst (λ (rs : List Region). AreShares (length network.points) 2000000000000 rs) (sym is) (core_shares network c.core-core.ensures.valid)
+    subst (λ (rs : List Region). AreShares (length network.points) MOST_COORDINATE rs) (sym is) (core_shares network c.core-core.ensures.valid)

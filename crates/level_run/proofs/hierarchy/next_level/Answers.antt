@@ -1,4 +1,5 @@
 use Rattle.std.proofs.Common.{◌≡◌, ℕ, ◌^◌, ◌<◌, List, length, sum, sym, ◌∙◌, ap, subst, arith}
+use Rattle.relax_system.specs.declared.valid.TheConstants.{MOST_COORDINATE}
 use Rattle.area_cut.specs.declared.region.Region.{Region}
 use Rattle.area_cut.specs.Regions.{AreShares}
 use Rattle.level_run.proofs.Areas.{areas_fit}
@@ -9,5 +10,5 @@ cut-requires-clause-fits g c = subst (λ (items : List ℕ). sum items < 2 ^ 64)
 
 pub solved-requires-clause-shares : goal.solved-requires-clause-shares
 solved-requires-clause-shares g c = λ κs lives.
-    subst (λ (rs : List Region). AreShares (length c.args.network.now.points) 2000000000000 rs) (sym c.in_ok-regions.ensures.parts)
-    (c.parts_share.ensures (length c.args.network.now.points) 2000000000000 c.args.areas.now c.as_slice-xs.result.now c.as_slice-ys.result.now c.args.level.now.regions c.requires.sane.shares)
+    subst (λ (rs : List Region). AreShares (length c.args.network.now.points) MOST_COORDINATE rs) (sym c.in_ok-regions.ensures.parts)
+    (c.parts_share.ensures (length c.args.network.now.points) MOST_COORDINATE c.args.areas.now c.as_slice-xs.result.now c.as_slice-ys.result.now c.args.level.now.regions c.requires.sane.shares)

@@ -1,6 +1,7 @@
 use Rattle.std.proofs.Common.{◌≡◌, ℕ, ◌*◌, ◌+◌, ◌^◌, ◌<◌, ◌≤◌, eqb, List, length, get_or, sym, ◌∙◌, ap, subst, arith}
 use Rattle.std.specs.Prelude.{All, map, filter, sum_by, slice_index}
 use Rattle.std.proofs.lemmas.List.Elements.{All-from_recursion, All-weaker, All-get_or}
+use Rattle.relax_system.specs.declared.valid.TheConstants.{MOST_COORDINATE}
 use Rattle.area_cut.specs.declared.region.Region.{Region}
 use Rattle.area_cut.specs.Regions.{IsGood, IsWithin, no_region, home_of, region_of}
 use Rattle.net_model.specs.declared.parts.Near.{Near}
@@ -36,7 +37,7 @@ overflow_add-result-2 c =
     let here = region_is (length c.args.network.now.points) regions c.args.homes.now c.args.p c.index-regions-homes.result c.requires.homes c.requires.there read in
     let fixed = c.pin_constants-fixed.ensures.pull ∙ ap (pin_pull c.args.axis c.index-regions-homes.result) c.pins.ensures.pins ∙ ap (λ (r : Region). pin_pull c.args.axis r own.pins) here in
     let home = c.requires.homes.there c.args.p c.requires.there in
-    let range = range_of c.args.axis region (All-get_or IsGood regions (home_of regions c.args.p) no_region home c.as_slice-regions.ensures.good) (All-get_or (IsWithin 2000000000000) regions (home_of regions c.args.p) no_region home c.requires.ends) in
+    let range = range_of c.args.axis region (All-get_or IsGood regions (home_of regions c.args.p) no_region home c.as_slice-regions.ensures.good) (All-get_or (IsWithin MOST_COORDINATE) regions (home_of regions c.args.p) no_region home c.requires.ends) in
     let light = (c.pins.ensures.valid.each c.args.p c.requires.there).light in
     let one = outer_whole c.args.axis regions c.args.mids.now c.args.p own.near range (omega arith) in
     let other = pins_whole c.args.axis region own.pins range (omega arith) in

@@ -1,4 +1,4 @@
-use Rattle.std.proofs.Common.{◌≡◌, ℕ, ◌<◌, ◌≤◌, length}
+use Rattle.std.proofs.Common.{ℕ, ◌<◌, ◌≤◌}
 use Rattle.std.specs.List.{slice_index}
 use Rattle.relax_system.specs.System.{point_at}
 use Rattle.relax_system.proofs.tests.is_in_boxes.Given as goal

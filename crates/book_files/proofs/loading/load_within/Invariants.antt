@@ -1,14 +1,13 @@
 use Rattle.std.proofs.Common.{◌≡◌, ◌≤◌, ◌<◌, vec_len, ◌+◌, ◌-◌}
 use Rattle.book_outer.specs.Cause.{one_more}
 use Rattle.book_outer.specs.Folder.{missed_after}
-use Rattle.book_files.specs.declared.loading.TheConstants.{MOST_BYTES}
 use Rattle.book_files.proofs.Pieces.{IsFront}
-use Rattle.book_files.proofs.loading.load.Given as goal
+use Rattle.book_files.proofs.loading.load_within.Given as goal
 
 abbrev pub invariant-pieces : goal.invariant-pieces
 invariant-pieces g l = record {
   front : IsFront ((g.F.Folder.state l.folder).files) ((g.F.Folder.state l.folder).reading) l.name l.bytes.items;
-  within : vec_len l.bytes ≤ MOST_BYTES;
+  within : vec_len l.bytes ≤ l.most;
   room : 0 < vec_len l.piece;
   files : (g.F.Folder.state l.folder).files ≡ (g.F.Folder.state l.fn.folder).files;
   writing : (g.F.Folder.state l.folder).writing ≡ (g.F.Folder.state l.fn.folder).writing;
@@ -20,4 +19,4 @@ invariant-pieces g l = record {
 }
 
 abbrev pub decreases-pieces : goal.decreases-pieces
-decreases-pieces g l = MOST_BYTES + 1 - vec_len l.bytes
+decreases-pieces g l = l.most + 1 - vec_len l.bytes

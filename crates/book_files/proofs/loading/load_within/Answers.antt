@@ -1,8 +1,7 @@
 use Rattle.std.proofs.Common.{ℕ, ◌<◌, ◌≤◌, List, length, take, vec_len, ap, ◌∙◌, arith}
 use Rattle.std.proofs.lemmas.List.{length-take-le}
-use Rattle.book_files.specs.declared.loading.TheConstants.{MOST_BYTES}
 use Rattle.book_files.proofs.Pieces.{IsFront-begin, IsSome-front, IsFront-read, content-end, take-lent, room-falls}
-use Rattle.book_files.proofs.loading.load.Goals as goal
+use Rattle.book_files.proofs.loading.load_within.Goals as goal
 
 pub pieces-init : goal.pieces-init
 pieces-init g c =
@@ -23,7 +22,7 @@ pub pieces-smaller : goal.pieces-smaller
 pieces-smaller g c =
     let count : c.in_ok-count.count ≤ length c.deref.result.now = omega (arith, c.in_ok-count.ensures.reads.0, c.deref.ensures.len, c.deref_mut.ensures.len) in
     let more : vec_len c.pieces.bytes < vec_len c.extend_from_slice.new.self = omega (arith, c.in_ok-extend_from_slice.ensures.len, length-take-le _ c.deref.result.now count) in
-    room-falls MOST_BYTES (vec_len c.pieces.bytes) (vec_len c.extend_from_slice.new.self) more c.pieces.invariant.within
+    room-falls c.args.most (vec_len c.pieces.bytes) (vec_len c.extend_from_slice.new.self) more c.pieces.invariant.within
 
 pub pieces-preserved : goal.pieces-preserved
 pieces-preserved g c =
