@@ -2,8 +2,8 @@
 """Runs programs on small random designs, and compares what they print with what levels.py finds.
 
 compare_levels.py [--count N] [--seed K] PROGRAM .., by default 200 designs. Each program is run as PROGRAM --levels N AUX.
-The designs have cores from a millionth to some units wide, so that means round, mids tie and sides of regions come to 0; pads
-inside the core and far outside, cells of no width, nets with a node twice, and weights of 0.
+The designs have cores from a millionth to a hundred thousand units wide, so that means round, mids tie, sides of regions come
+to 0, and sums pass 64 bits; pads inside the core and far outside, cells of no width, nets with a node twice, and weights of 0.
 """
 import argparse
 import os
@@ -21,7 +21,7 @@ def decimal(millionths):
 
 def random_design(rng):
     """The texts of a design in which a chain of nets leads from each cell to a pad."""
-    unit = rng.choice([1, 1, 2, 5, 1000, 1000000])
+    unit = rng.choice([1, 1, 2, 5, 1000, 1000000, 5000000000])
     pitch, height, rows = rng.randint(1, 3) * unit, rng.randint(1, 20) * unit, rng.randint(1, 3)
     sites = rng.randint(1, 12)
     width, top = pitch * sites, height * rows
@@ -32,8 +32,9 @@ def random_design(rng):
     pins = [[rng.choice(cells[:i] + pads), cell] for i, cell in enumerate(cells)]
     pins += [rng.choices(cells + pads, k=rng.randint(1, 5)) for _ in range(rng.randint(0, 2 * len(cells)))]
     rng.shuffle(pins)
-    weights = {f"n{k}": rng.randint(0, 3) for k, net in enumerate(pins) if len(net) != 2 or rng.random() < 0.3}
-    weights = {net: weight or (len(pins[int(net[1:])]) == 2) + 0 for net, weight in weights.items()}
+    # A net of two nodes may be one of a chain, so it weighs something.
+    scale, named = rng.choice([(1, 0.5), (20000, 1)])
+    weights = {f"n{k}": scale * rng.choice([len(net) == 2, 1, 2, 3]) for k, net in enumerate(pins) if rng.random() < named}
     offset = lambda: rng.choice(["", " B", f" I : {decimal(rng.randint(-unit, unit))} {decimal(rng.randint(-unit, unit))}"])
     widths = {name: rng.randint(0, 4 * pitch) for name in cells + pads}
     marks = {pad: rng.choice([" terminal", " terminal", ""]) for pad in pads}
