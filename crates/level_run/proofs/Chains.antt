@@ -1,6 +1,6 @@
 -- A chain of the network gives one in each level's system: it stays in the region up to an anchored point, or leaves it at a constant.
-use Rattle.std.proofs.Common.{◌≡◌, ◌⊎◌, ℕ, zero, suc, ◌+◌, ◌<◌, ◌≤◌, Bool, true, false, not, cond, eqb, List, [], ◌∷◌, length, get_or, map, refl, sym, ◌∙◌, ap, subst, inl, inr, arith}
-use Rattle.std.specs.Prelude.{sum_by, filter, nat_le, Contains}
+use Rattle.std.proofs.Common.{◌≡◌, ℕ, ◌<◌, ◌≤◌, Bool, true, false, not, List, [], ◌∷◌, length, get_or, map, refl, sym, ◌∙◌, ap, subst, arith}
+use Rattle.std.specs.Prelude.{sum_by, Contains}
 use Rattle.std.specs.List.{AllByRecursion, range_with_len}
 use Rattle.std.proofs.lemmas.Bool.{le-leb}
 use Rattle.std.proofs.lemmas.List.{length-map, get_or-map}
@@ -13,11 +13,10 @@ use Rattle.area_cut.specs.declared.region.Region.{Region}
 use Rattle.net_model.specs.declared.parts.Near.{Near}
 use Rattle.net_model.specs.declared.parts.FixedPin.{FixedPin}
 use Rattle.net_model.specs.Values.{PointValue, NetworkValue, point_at}
-use Rattle.net_model.specs.WellFormed.{IsGoodNear, IsGoodPin, IsGoodPoint, IsNet}
+use Rattle.net_model.specs.WellFormed.{IsGoodNear, IsGoodPin, IsNet}
 use Rattle.net_model.specs.Webs.{has_pins, joint_of, joints_of}
 use Rattle.relax_system.specs.declared.points.Near.{Near as Neighbour}
 use Rattle.relax_system.specs.System.{joint_of as system_joint, joints_of as system_joints, point_at as system_point, no_point}
-use Rattle.area_cut.specs.Regions.{home_of}
 use Rattle.level_run.specs.LevelSystem.{is_inside, inside, outside, as_neighbour, level_point, level_system}
 use Rattle.level_run.proofs.Parts.{kept_at}
 

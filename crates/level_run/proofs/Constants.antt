@@ -1,7 +1,7 @@
 -- The constants of a point lie in its region's range.
-use Rattle.std.proofs.Common.{◌≡◌, ℕ, ◌+◌, ◌*◌, ◌^◌, ◌<◌, ◌≤◌, min, max, not, List, [], ◌∷◌, length, get_or, refl, ◌∙◌, ap, arith}
-use Rattle.std.specs.Prelude.{map, sum_by, filter}
-use Rattle.std.proofs.Math.Nat.{mul-le-mul_left, mul-le-mul_right, add-mul}
+use Rattle.std.proofs.Common.{◌≡◌, ℕ, ◌+◌, ◌*◌, ◌≤◌, not, List, [], ◌∷◌, refl, ◌∙◌, ap, arith}
+use Rattle.std.specs.Prelude.{map, sum_by}
+use Rattle.std.proofs.Math.Nat.{mul-le-mul_left, add-mul}
 use Rattle.std.proofs.lemmas.List.Sums.{sum_by-cons}
 use Rattle.std.proofs.lemmas.List.Filters.{sum_by-filter_both}
 use Rattle.relax_system.specs.declared.valid.TheConstants.{MOST_COORDINATE}

@@ -1,15 +1,14 @@
 -- There is exactly one list of levels, and each of its systems is valid.
 use Rattle.std.proofs.Common.{◌≡◌, ℕ, zero, suc, ◌+◌, ◌/◌, ◌<◌, ◌≤◌, ◌⊎◌, List, [], ◌∷◌, ◌++◌, length, get_or, refl, sym, ◌∙◌, ap, subst, inl, inr, arith}
-use Rattle.std.specs.Prelude.{map, ℤ}
+use Rattle.std.specs.Prelude.{ℤ}
 use Rattle.std.specs.List.{range_with_len}
 use Rattle.std.proofs.lemmas.Bool.{cases_lt}
 use Rattle.std.proofs.lemmas.List.{ext_get_or, length_push, get_or_append_left, get_or_push, get_or_default}
 use Rattle.std.proofs.lemmas.List.FromFn.{length-map-range_with_len}
-use Rattle.relax_system.specs.declared.valid.TheConstants.{MOST_COORDINATE}
 use Rattle.pad_reach.specs.Chain.{HasChain}
 use Rattle.relax_system.specs.declared.points.Point.{Point}
 use Rattle.relax_system.specs.System.{IsValid, joints_of as joints_of_system}
-use Rattle.relax_system.specs.Means.{AtMost}
+use Rattle.relax_system.specs.Means.{AtMost, IsFloorFixed, IsCeilFixed}
 use Rattle.relax_system.specs.Exact.{IsExact, IsBetween, HasLowerResiduals, HasUpperResiduals}
 use Rattle.relax_system.specs.Extremal.{IsLeast, IsGreatest}
 use Rattle.area_cut.specs.declared.axis.Axis.{Axis}
@@ -19,7 +18,6 @@ use Rattle.area_cut.specs.Regions.{ArePartition, AreShares, HaveHomes}
 use Rattle.area_cut.specs.Cut.{cut_of}
 use Rattle.net_model.specs.Values.{NetworkValue}
 use Rattle.net_model.specs.WellFormed.{IsNet}
-use Rattle.net_model.specs.Webs.{joints_of}
 use Rattle.level_run.specs.declared.level.Solve.{Solve}
 use Rattle.level_run.specs.declared.level.Level.{Level}
 use Rattle.level_run.specs.LevelSystem.{level_system}
@@ -34,11 +32,11 @@ pub record Laws : Type 0 where
   pub shares : (points limit : ℕ) (areas xs ys : List ℕ) (regions : List Region) → AreShares points limit regions → AreShares points limit (cut_of areas xs ys regions)
   pub homes : (points : ℕ) (regions : List Region) → ArePartition points regions → HaveHomes points regions
   pub least_there : (points : List Point) → IsValid points → (v : List ℕ) × IsLeast points v
-  pub least_one : (points : List Point) (u v : List ℕ) → IsValid points → IsLeast points u → IsLeast points v → u ≡ v
   pub greatest_there : (points : List Point) → IsValid points → (v : List ℕ) × IsGreatest points v
-  pub greatest_one : (points : List Point) (u v : List ℕ) → IsValid points → IsGreatest points u → IsGreatest points v → u ≡ v
 
 pub record Bounds : Type 0 where
+  pub lower_fixed : (points : List Point) (v : List ℕ) → IsValid points → IsLeast points v → IsFloorFixed points v
+  pub upper_fixed : (points : List Point) (v : List ℕ) → IsValid points → IsGreatest points v → IsCeilFixed points v
   pub ordered : (points : List Point) (lo hi : List ℕ) → IsValid points → IsLeast points lo → IsGreatest points hi → AtMost lo hi
   pub lower : (points : List Point) (lo : List ℕ) → IsValid points → IsLeast points lo → HasLowerResiduals points lo
   pub upper : (points : List Point) (hi : List ℕ) → IsValid points → IsGreatest points hi → HasUpperResiduals points hi
@@ -49,24 +47,28 @@ mid_length axis network regions mids solve is =
     let many = length-map-range_with_len (λ (i : ℕ). (get_or solve.lo i 0 + get_or solve.hi i 0) / 2) 0 (length solve.lo) in
     ap length is.mid ∙ many ∙ is.lo.in_boxes.all ∙ length_system axis network regions mids
 
-pub level_sane : (network : NetworkValue) (regions : List Region) (xs ys : List ℕ) (level : Level) → AreShares (length network.points) MOST_COORDINATE regions → IsLevel network regions xs ys level → IsSane network level
+pub level_sane : (network : NetworkValue) (regions : List Region) (xs ys : List ℕ) (level : Level) → AreShares (length network.points) 2000000000000 regions → IsLevel network regions xs ys level → IsSane network level
 level_sane network regions xs ys level shares is = record {
-  shares = subst (λ (rs : List Region). AreShares (length network.points) MOST_COORDINATE rs) (sym is.regions) shares;
+  shares = subst (λ (rs : List Region). AreShares (length network.points) 2000000000000 rs) (sym is.regions) shares;
   xs = mid_length X network regions xs level.x is.x;
   ys = mid_length Y network regions ys level.y is.y;
 }
 
 pub next_sane : (share : (points limit : ℕ) (areas xs ys : List ℕ) (regions : List Region) → AreShares points limit regions → AreShares points limit (cut_of areas xs ys regions)) (network : NetworkValue) (level next : Level) → IsSane network level → IsNext network level next → IsSane network next
 next_sane share network level next sane is =
-    level_sane network (next_regions network level) level.x.mid level.y.mid next (share (length network.points) MOST_COORDINATE (areas_of network) level.x.mid level.y.mid level.regions sane.shares) is
+    level_sane network (next_regions network level) level.x.mid level.y.mid next (share (length network.points) 2000000000000 (areas_of network) level.x.mid level.y.mid level.regions sane.shares) is
 
 abbrev solve_of : List ℕ → List ℕ → List ℕ → Solve
 solve_of lo hi mid = record { lo = lo; hi = hi; mid = mid }
 
-same_solve : (laws : Laws) (points : List Point) (a b : Solve) → IsValid points → IsSolve points a → IsSolve points b → a ≡ b
-same_solve laws points a b valid one other =
-    let lo = laws.least_one points a.lo b.lo valid one.lo other.lo in
-    let hi = laws.greatest_one points a.hi b.hi valid one.hi other.hi in
+-- no least vector is above another, and no greatest below
+same_vector : (u v : List ℕ) → length u ≡ length v → AtMost u v → AtMost v u → u ≡ v
+same_vector u v many up down = ext_get_or 0 u v many (λ i inside. omega (arith, up i, down i))
+
+same_solve : (points : List Point) (a b : Solve) → IsSolve points a → IsSolve points b → a ≡ b
+same_solve points a b one other =
+    let lo = same_vector a.lo b.lo (one.lo.in_boxes.all ∙ sym other.lo.in_boxes.all) (one.lo.least b.lo other.lo.in_boxes other.lo.pre_fixed) (other.lo.least a.lo one.lo.in_boxes one.lo.pre_fixed) in
+    let hi = same_vector a.hi b.hi (one.hi.in_boxes.all ∙ sym other.hi.in_boxes.all) (other.hi.greatest a.hi one.hi.in_boxes one.hi.post_fixed) (one.hi.greatest b.hi other.hi.in_boxes other.hi.post_fixed) in
     let mid : a.mid ≡ b.mid = one.mid ∙ ap (λ (v : List ℕ). halfway v a.hi) lo ∙ ap (λ (v : List ℕ). halfway b.lo v) hi ∙ sym other.mid in
     ap (λ (v : List ℕ). solve_of v a.hi a.mid) lo ∙ ap (λ (v : List ℕ). solve_of b.lo v a.mid) hi ∙ ap (λ (v : List ℕ). solve_of b.lo b.hi v) mid
 
@@ -78,6 +80,33 @@ solve_there laws points valid =
 
 abbrev level_of : List Region → Solve → Solve → Level
 level_of regions x y = record { regions = regions; x = x; y = y }
+
+-- ---- at most one
+
+same_level : (network : NetworkValue) (regions : List Region) (xs ys : List ℕ) (a b : Level) → IsLevel network regions xs ys a → IsLevel network regions xs ys b → a ≡ b
+same_level network regions xs ys a b one other =
+    let x = same_solve (level_system X network regions xs) a.x b.x one.x other.x in
+    let y = same_solve (level_system Y network regions ys) a.y b.y one.y other.y in
+    let rs : a.regions ≡ b.regions = one.regions ∙ sym other.regions in
+    ap (λ (r : List Region). level_of r a.x a.y) rs ∙ ap (λ (s : Solve). level_of b.regions s a.y) x ∙ ap (λ (s : Solve). level_of b.regions b.x s) y
+
+same_at : (network : NetworkValue) (count : ℕ) (a b : List Level) → IsLevels network count a → IsLevels network count b → (k : ℕ) (d : Level) → k < length a → get_or a k d ≡ get_or b k d
+same_at network count a b one other zero d inside = same_level network (core_region network ∷ []) (no_mids network) (no_mids network) (get_or a 0 d) (get_or b 0 d) (one.first d) (other.first d)
+same_at network count a b one other (suc k) d inside =
+    let many = one.many in
+    let before = same_at network count a b one other k d (omega arith) in
+    let e : k + 1 ≡ suc k = omega arith in
+    let step : IsNext network (get_or a k d) (get_or a (suc k) d) = subst (λ (j : ℕ). IsNext network (get_or a k d) (get_or a j d)) e (one.next k d (omega (arith, one.many))) in
+    let step_there : IsNext network (get_or b k d) (get_or b (suc k) d) = subst (λ (j : ℕ). IsNext network (get_or b k d) (get_or b j d)) e (other.next k d (omega (arith, one.many))) in
+    let step_too : IsNext network (get_or a k d) (get_or b (suc k) d) = subst (λ (level : Level). IsNext network level (get_or b (suc k) d)) (sym before) step_there in
+    let level = get_or a k d in
+    same_level network (next_regions network level) level.x.mid level.y.mid (get_or a (suc k) d) (get_or b (suc k) d) step step_too
+
+pub levels_one : (network : NetworkValue) (count : ℕ) (a b : List Level) → IsLevels network count a → IsLevels network count b → a ≡ b
+levels_one network count a b one other =
+    let many = one.many in
+    let also = other.many in
+    ext_get_or no_level a b (omega arith) (λ i inside. same_at network count a b one other i no_level inside)
 
 -- ---- one level, and one more
 
@@ -107,8 +136,8 @@ one_level_more network count levels next d is step = record {
       subst (λ (a : Level). IsNext network a (get_or (levels ++ next ∷ []) (k + 1) e)) (sym level) (subst (λ (b : Level). IsNext network (get_or levels count d) b) (sym last) step)
 
 module _ (share : (points limit : ℕ) (areas xs ys : List ℕ) (regions : List Region) → AreShares points limit regions → AreShares points limit (cut_of areas xs ys regions)) (network : NetworkValue) (net : IsNet network) where
-  pub next_shares : (level : Level) → IsSane network level → AreShares (length network.points) MOST_COORDINATE (next_regions network level)
-  next_shares level sane = share (length network.points) MOST_COORDINATE (areas_of network) level.x.mid level.y.mid level.regions sane.shares
+  pub next_shares : (level : Level) → IsSane network level → AreShares (length network.points) 2000000000000 (next_regions network level)
+  next_shares level sane = share (length network.points) 2000000000000 (areas_of network) level.x.mid level.y.mid level.regions sane.shares
 
   pub sane_at : (count : ℕ) (levels : List Level) → IsLevels network count levels → (k : ℕ) (d : Level) → k < length levels → IsSane network (get_or levels k d)
   sane_at count levels is zero d inside = level_sane network (core_region network ∷ []) (no_mids network) (no_mids network) (get_or levels 0 d) (core_shares network net) (is.first d)
@@ -119,42 +148,14 @@ module _ (share : (points limit : ℕ) (areas xs ys : List ℕ) (regions : List 
       next_sane share network (get_or levels k d) (get_or levels (suc k) d) before step
 
 module _ (laws : Laws) (network : NetworkValue) (net : IsNet network) (chains : HasChains network) where
-  valid_with : (axis : Axis) (regions : List Region) (mids : List ℕ) → AreShares (length network.points) MOST_COORDINATE regions → IsValid (level_system axis network regions mids)
+  valid_with : (axis : Axis) (regions : List Region) (mids : List ℕ) → AreShares (length network.points) 2000000000000 regions → IsValid (level_system axis network regions mids)
   valid_with axis regions mids shares = system_is_valid axis network regions mids net (laws.homes (length network.points) regions shares.partition) shares.good shares.within chains
 
-  same_level : (regions : List Region) (xs ys : List ℕ) (a b : Level) → AreShares (length network.points) MOST_COORDINATE regions → IsLevel network regions xs ys a → IsLevel network regions xs ys b → a ≡ b
-  same_level regions xs ys a b shares one other =
-      let x = same_solve laws (level_system X network regions xs) a.x b.x (valid_with X regions xs shares) one.x other.x in
-      let y = same_solve laws (level_system Y network regions ys) a.y b.y (valid_with Y regions ys shares) one.y other.y in
-      let rs : a.regions ≡ b.regions = one.regions ∙ sym other.regions in
-      ap (λ (r : List Region). level_of r a.x a.y) rs ∙ ap (λ (s : Solve). level_of b.regions s a.y) x ∙ ap (λ (s : Solve). level_of b.regions b.x s) y
-
-  level_there : (regions : List Region) (xs ys : List ℕ) → AreShares (length network.points) MOST_COORDINATE regions → (level : Level) × IsLevel network regions xs ys level
+  level_there : (regions : List Region) (xs ys : List ℕ) → AreShares (length network.points) 2000000000000 regions → (level : Level) × IsLevel network regions xs ys level
   level_there regions xs ys shares =
       let x = solve_there laws (level_system X network regions xs) (valid_with X regions xs shares) in
       let y = solve_there laws (level_system Y network regions ys) (valid_with Y regions ys shares) in
       (record { regions = regions; x = x.0; y = y.0 }, record { regions = refl; x = x.1; y = y.1 })
-
-  -- ---- at most one
-
-  same_at : (count : ℕ) (a b : List Level) → IsLevels network count a → IsLevels network count b → (k : ℕ) (d : Level) → k < length a → get_or a k d ≡ get_or b k d
-  same_at count a b one other zero d inside = same_level (core_region network ∷ []) (no_mids network) (no_mids network) (get_or a 0 d) (get_or b 0 d) (core_shares network net) (one.first d) (other.first d)
-  same_at count a b one other (suc k) d inside =
-      let many = one.many in
-      let also = other.many in
-      let before = same_at count a b one other k d (omega arith) in
-      let e : k + 1 ≡ suc k = omega arith in
-      let step : IsNext network (get_or a k d) (get_or a (suc k) d) = subst (λ (j : ℕ). IsNext network (get_or a k d) (get_or a j d)) e (one.next k d (omega (arith, one.many))) in
-      let step_there : IsNext network (get_or b k d) (get_or b (suc k) d) = subst (λ (j : ℕ). IsNext network (get_or b k d) (get_or b j d)) e (other.next k d (omega (arith, other.many, one.many))) in
-      let step_too : IsNext network (get_or a k d) (get_or b (suc k) d) = subst (λ (level : Level). IsNext network level (get_or b (suc k) d)) (sym before) step_there in
-      let level = get_or a k d in
-      same_level (next_regions network level) level.x.mid level.y.mid (get_or a (suc k) d) (get_or b (suc k) d) (next_shares laws.shares network net level (sane_at laws.shares network net count a one k d (omega arith))) step step_too
-
-  pub levels_one : (count : ℕ) (a b : List Level) → IsLevels network count a → IsLevels network count b → a ≡ b
-  levels_one count a b one other =
-      let many = one.many in
-      let also = other.many in
-      ext_get_or no_level a b (omega arith) (λ i inside. same_at count a b one other i no_level inside)
 
   -- ---- at least one
 
@@ -196,6 +197,8 @@ module _ (laws : Laws) (network : NetworkValue) (net : IsNet network) (chains : 
       let solved = solved_at count levels is axis k inside in
       let many = length_system axis network (level_at levels k).regions (mids_before axis network levels k) in
       record {
+        lower_fixed = bounds.lower_fixed points solve.lo valid solved.lo;
+        upper_fixed = bounds.upper_fixed points solve.hi valid solved.hi;
         ordered = bounds.ordered points solve.lo solve.hi valid solved.lo solved.hi;
         lower = bounds.lower points solve.lo valid solved.lo;
         upper = bounds.upper points solve.hi valid solved.hi;

@@ -1,27 +1,24 @@
 -- The system of a level is valid, where each point of the network has a chain.
-use Rattle.std.proofs.Common.{◌≡◌, ◌⊎◌, ℕ, ◌+◌, ◌<◌, ◌≤◌, Bool, true, false, cond, eqb, List, [], ◌∷◌, length, get_or, refl, sym, ◌∙◌, ap, subst, inl, inr, arith}
+use Rattle.std.proofs.Common.{◌≡◌, ℕ, ◌<◌, ◌≤◌, Bool, true, false, cond, eqb, List, [], ◌∷◌, length, get_or, refl, sym, ◌∙◌, ap, subst, arith}
 use Rattle.std.specs.Prelude.{map, sum_by, All}
 use Rattle.std.specs.List.{AllByRecursion}
 use Rattle.std.proofs.lemmas.Bool.{eqb-true}
-use Rattle.std.proofs.lemmas.List.{length-map}
 use Rattle.std.proofs.lemmas.List.Elements.{All-from_recursion, All-get_or}
 use Rattle.std.proofs.lemmas.List.Sums.{get_or-le-sum_by}
 use Rattle.relax_system.specs.declared.valid.TheConstants.{MOST_COORDINATE}
-use Rattle.pad_reach.specs.Chain.{Joint, joint_at, IsNeighbour, IsAnchored, IsChain, HasChain}
+use Rattle.pad_reach.specs.Chain.{Joint, IsNeighbour, IsChain, HasChain}
 use Rattle.area_cut.specs.declared.axis.Axis.{Axis}
 use Rattle.area_cut.specs.declared.region.Region.{Region}
 use Rattle.area_cut.specs.Regions.{IsGood, AreGood, IsWithin, AreWithin, HaveHomes, low_end, high_end, no_region, home_of, region_of}
 use Rattle.net_model.specs.declared.parts.Near.{Near}
-use Rattle.net_model.specs.Values.{PointValue, NetworkValue, point_at}
+use Rattle.net_model.specs.Values.{NetworkValue, point_at}
 use Rattle.net_model.specs.Network.{total_weight}
-use Rattle.net_model.specs.WellFormed.{IsGoodNear, IsGoodPoint, IsNet}
+use Rattle.net_model.specs.WellFormed.{IsGoodNear, IsNet}
 use Rattle.net_model.specs.Webs.{has_pins, joints_of}
-use Rattle.relax_system.specs.declared.points.Near.{Near as Neighbour}
 use Rattle.relax_system.specs.declared.points.Point.{Point}
 use Rattle.relax_system.specs.System.{IsValidNear, IsValidPoint, IsValid}
 use Rattle.level_run.specs.LevelSystem.{is_inside, inside, outside, as_neighbour, level_point, level_system}
 use Rattle.level_run.specs.Forms.Projection.{IsRange}
-use Rattle.level_run.proofs.Parts.{AllByRecursion-filter}
 use Rattle.level_run.proofs.Constants.{range_of, near_pulls, pin_pulls, both_pull, neighbours_weight, weights_split}
 use Rattle.level_run.proofs.Chains.{length_system, system_at, network_joint, pins_weigh, entry_of, no_near}
 

@@ -1,5 +1,5 @@
 -- The system of a network on an axis, where each point has the range of its region.
-use Rattle.std.specs.Prelude.{ℕ, ◌+◌, ◌*◌, ◌^◌, Bool, not, ◌==◌, List, length, map, filter, sum_by, slice_index, min, max, ℤ, pos, negsuc, ◌+ℤ◌}
+use Rattle.std.specs.Prelude.{ℕ, ◌+◌, ◌*◌, Bool, not, ◌==◌, List, length, map, filter, sum_by, slice_index, min, max, ℤ, pos, negsuc, ◌+ℤ◌}
 use Rattle.std.specs.List.{range_with_len}
 use Rattle.book_text.specs.declared.decimal.TheConstants.{MOST_MICRO}
 use Rattle.relax_system.specs.declared.points.Near.{Near as Neighbour}
@@ -10,7 +10,7 @@ use Rattle.area_cut.specs.declared.region.Region.{Region}
 use Rattle.area_cut.specs.Regions.{low_end, high_end, home_of, region_of}
 use Rattle.net_model.specs.declared.parts.Near.{Near}
 use Rattle.net_model.specs.declared.parts.FixedPin.{FixedPin}
-use Rattle.net_model.specs.Values.{PointValue, NetworkValue, point_at}
+use Rattle.net_model.specs.Values.{NetworkValue, point_at}
 
 -- a coordinate, clamped to a region's range
 abbrev pub clamped : Axis → Region → ℕ → ℕ

@@ -2,7 +2,7 @@
 use Rattle.std.specs.Prelude.{◌≡◌, ◌⊎◌, ℕ, zero, suc, ◌+◌, ◌-◌, ◌/◌, ◌<◌, ◌≤◌, List, [], ◌∷◌, ◌++◌, length, map, replicate, slice_index, slice_index_or, All, Contains, ℤ}
 use Rattle.std.specs.List.{range_with_len, flat_map}
 use Rattle.relax_system.specs.declared.points.Point.{Point}
-use Rattle.relax_system.specs.Means.{AtMost}
+use Rattle.relax_system.specs.Means.{AtMost, IsFloorFixed, IsCeilFixed}
 use Rattle.relax_system.specs.Exact.{IsExact, IsBetween, HasLowerResiduals, HasUpperResiduals}
 use Rattle.relax_system.specs.Extremal.{IsLeast, IsGreatest}
 use Rattle.area_cut.specs.declared.axis.Axis.{Axis}
@@ -92,8 +92,11 @@ mids_before axis network levels (suc k) = (solve_on axis (level_at levels k)).mi
 abbrev pub system_of : Axis → NetworkValue → List Level → ℕ → List Point
 system_of axis network levels k = level_system axis network (level_at levels k).regions (mids_before axis network levels k)
 
--- the two vectors are in order with small residuals, and enclose every exact solution
+-- The two vectors are fixed points of the rounded-down and of the rounded-up means, in order and with residuals below the total
+-- weights, and enclose every exact solution.
 pub record Encloses (points : List Point) (solve : Solve) : Type 0 where
+  pub lower_fixed : IsFloorFixed points solve.lo
+  pub upper_fixed : IsCeilFixed points solve.hi
   pub ordered : AtMost solve.lo solve.hi
   pub lower : HasLowerResiduals points solve.lo
   pub upper : HasUpperResiduals points solve.hi

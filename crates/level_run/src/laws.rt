@@ -12,7 +12,7 @@ ghost use Rattle.net_model.specs.WellFormed.{IsNet};
 ghost use Rattle.net_model.specs.Webs.{joints_of};
 ghost use Rattle.level_run.specs.declared.level.Level.{Level};
 ghost use Rattle.level_run.specs.LevelSystem.{level_system};
-ghost use Rattle.level_run.specs.Levels.{IsLevels, HasChains, Encloses, core_region, level_at, solve_on, system_of};
+ghost use Rattle.level_run.specs.Levels.{IsLevels, HasChains, Encloses, IsGap, core_region, level_at, solve_on, system_of};
 
 use area_cut::{parts_share, points_have_homes};
 use relax_system::{enclosure, greatest_vector, least_vector};
@@ -27,10 +27,10 @@ pub fn chains_stay()
     points_have_homes();
 }
 
-/// There is exactly one list of levels.
+/// There is exactly one list of levels where each point has a chain, and never more.
 pub fn levels_are_one()
     ensures there { (network : NetworkValue) (count : ℕ) → IsNet network → HasChains network → (levels : List Level) × IsLevels network count levels }
-    ensures one { (network : NetworkValue) (count : ℕ) (a b : List Level) → IsNet network → HasChains network → IsLevels network count a → IsLevels network count b → a ≡ b }
+    ensures one { (network : NetworkValue) (count : ℕ) (a b : List Level) → IsLevels network count a → IsLevels network count b → a ≡ b }
 {
     parts_share();
     points_have_homes();
@@ -38,7 +38,8 @@ pub fn levels_are_one()
     greatest_vector();
 }
 
-/// Each level's systems are valid; its lower and upper vectors are in order with small residuals, and enclose every exact solution.
+/// Each level's systems are valid; its lower and upper vectors are fixed points, in order with small residuals, and enclose every
+/// exact solution.
 pub fn levels_enclose()
     ensures valid { (network : NetworkValue) (count : ℕ) (levels : List Level) (axis : Axis) (k : ℕ) → IsNet network → HasChains network
         → IsLevels network count levels → k ≤ count → IsValid (system_of axis network levels k) }
@@ -51,6 +52,12 @@ pub fn levels_enclose()
     greatest_vector();
     enclosure();
 }
+
+/// Levels have exactly one gap.
+pub fn gap_is_one()
+    ensures there { (levels : List Level) → (gap : ℕ) × IsGap levels gap }
+    ensures one { (levels : List Level) (a b : ℕ) → IsGap levels a → IsGap levels b → a ≡ b }
+{}
 
 /// The first level uses no mids: whatever they are, its systems are the same.
 pub fn first_uses_no_mids()

@@ -17,7 +17,7 @@ mod spread;
 
 pub use area_cut::Axis;
 pub use hierarchy::{MOST_LEVELS, Options, levels};
-pub use laws::{chains_stay, first_uses_no_mids, levels_are_one, levels_enclose};
+pub use laws::{chains_stay, first_uses_no_mids, gap_is_one, levels_are_one, levels_enclose};
 pub use level::{Level, Levels, Solve};
 pub use projection::project;
 pub use spread::gap;

@@ -1,5 +1,5 @@
 -- From what the reading of one file answered to what the reading of all says.
-use Rattle.std.proofs.Common.{◌≡◌, ◌⊎◌, ◌+◌, ◌<◌, ◌≤◌, ℕ, suc, zero, min, List, Option, Some, None, IfSome, Result, Ok, Err, length, refl, sym, ◌∙◌, ap, subst, inl, inr, arith}
+use Rattle.std.proofs.Common.{◌≡◌, ◌⊎◌, ◌+◌, ◌<◌, ℕ, suc, zero, min, List, Option, Some, None, IfSome, Ok, Err, refl, sym, ◌∙◌, ap, subst, inl, inr, arith}
 use Rattle.std.specs.Prelude.{◌-◌, ◌^◌, Vec, IsSome, option_map}
 use Rattle.std.specs.declared.alloc.Global.{Global}
 use Rattle.std.proofs.lemmas.Bool.{cases_order}
@@ -9,23 +9,20 @@ use Rattle.book_outer.specs.Folder.{missed_after}
 use Rattle.book_outer.specs.State.{FolderState}
 use Rattle.book_files.specs.declared.records.FileKind.{FileKind}
 use Rattle.book_files.specs.declared.records.FileKind.TheVariants.{Aux, Nodes, Nets, Wts, Pl, Scl}
-use Rattle.book_files.specs.declared.fault.TextFault.{TextFault}
 use Rattle.book_files.specs.Entries.{AuxEntry}
 use Rattle.book_files.specs.Grammar.{IsReading}
 use Rattle.book_files.specs.AuxRules.{aux_grammar}
-use Rattle.book_files.specs.Loading.{HasLongText}
-use Rattle.book_files.specs.declared.loading.TheConstants.{MOST_BYTES}
 use Rattle.proud_top.specs.declared.status.Refusal.{Refusal}
 use Rattle.proud_top.specs.declared.status.Refusal.TheVariants.{TooLong, Text}
 use Rattle.proud_top.specs.declared.stop.Stop.{Stop}
 use Rattle.proud_top.specs.declared.stop.Stop.TheVariants.{ReadFault, Refused, Memory}
 use Rattle.proud_top.specs.Request.{beside}
 use Rattle.proud_top.specs.Order.{rank, name_of, nth_of, weight_files}
-use Rattle.proud_top.specs.Accepted.{Reads, IsReadable, IsAccepted, IsNextFile, IsFaultOf, IsTooLong, IsBadText, IsFaultAt, IsLast, HasBegun}
-use Rattle.proud_top.specs.Flow.{reads, last_kind}
+use Rattle.proud_top.specs.Accepted.{IsAccepted, IsNextFile, IsFaultOf, HasBegun}
+use Rattle.proud_top.specs.Flow.{reads}
 use Rattle.proud_top.specs.Statuses.{HasReadUpTo, IsUntouched}
-use Rattle.proud_top.specs.Forms.Inputs.{Texts, IsSoundText, Holds, HoldsWeights, HasTexts}
-use Rattle.proud_top.specs.Forms.Stops.{IsNameless, StopsReading, Gathers}
+use Rattle.proud_top.specs.Forms.Inputs.{IsSoundText, Holds, HoldsWeights}
+use Rattle.proud_top.specs.Forms.Stops.{StopsReading, Gathers}
 use Rattle.proud_top.specs.Forms.Gathering.{BeginsOne, Loads, Looks, Began, AreAccepted, HasReadBelow, AreNames, IsNext, IsText, Steps, StepsWeights}
 use Rattle.proud_top.proofs.Once.{rank_once, one_text}
 

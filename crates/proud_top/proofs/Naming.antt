@@ -1,6 +1,6 @@
 -- Texts that are read again read as the same records, and make the same design.
-use Rattle.std.proofs.Common.{◌≡◌, ◌<◌, ℕ, List, length, Result, Ok, Err, IfOk, IfSome, refl, sym, ◌∙◌, ap, subst}
-use Rattle.std.specs.Prelude.{Vec, Option, Some, None, slice_get}
+use Rattle.std.proofs.Common.{◌≡◌, ◌<◌, ℕ, List, length, Result, Ok, Err, IfOk, IfSome, refl, sym, ap, subst}
+use Rattle.std.specs.Prelude.{Vec, Option, Some, None}
 use Rattle.std.specs.List.{count_by}
 use Rattle.std.specs.declared.alloc.Global.{Global}
 use Rattle.book_text.specs.declared.memory.Memory.{Memory as NoMemory}

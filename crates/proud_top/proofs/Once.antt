@@ -18,12 +18,15 @@ use Rattle.book_files.specs.declared.loading.TheConstants.{MOST_BYTES}
 use Rattle.book_design.specs.Records.{Records}
 use Rattle.book_design.specs.Values.{DesignValue}
 use Rattle.book_design.specs.Answers.{HasOneJoin}
+use Rattle.net_model.specs.Values.{NetworkValue}
 use Rattle.net_model.specs.Answers.{HasOneNetwork}
+use Rattle.level_run.specs.declared.level.Level.{Level}
+use Rattle.level_run.specs.Levels.{IsLevels, IsGap}
 use Rattle.proud_top.specs.Request.{beside}
 use Rattle.proud_top.specs.Order.{rank, name_of}
 use Rattle.proud_top.specs.Accepted.{Reads, ReadsWeights, Accepts, IsReadable, IsAccepted, IsNextFile, IsFaultOf, IsTooLong, IsBadText}
 
--- what the laws of the readers, of the join and of the network say
+-- what the laws of the readers, of the join, of the network and of the levels say
 pub record OneAnswer : Type 0 where
   pub aux : (text : List ℕ) → HasOneAnswer aux_grammar text
   pub nodes : (text : List ℕ) → HasOneAnswer nodes_grammar text
@@ -33,6 +36,8 @@ pub record OneAnswer : Type 0 where
   pub scl : (text : List ℕ) → HasOneAnswer rows_grammar text
   pub join : (files : Records) → HasOneJoin files
   pub network : (design : DesignValue) → HasOneNetwork design
+  pub levels : (network : NetworkValue) (count : ℕ) (a b : List Level) → IsLevels network count a → IsLevels network count b → a ≡ b
+  pub gap : (levels : List Level) (a b : ℕ) → IsGap levels a → IsGap levels b → a ≡ b
 
 pub one_text : (a b : List ℕ) → Some a ≡ Some b → a ≡ b
 one_text a b e = cc

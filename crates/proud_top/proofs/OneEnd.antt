@@ -2,25 +2,25 @@
 use Rattle.std.proofs.Common.{◌≡◌, ◌⊎◌, ◌<◌, ◌≤◌, ℕ, List, length, refl, sym, ◌∙◌, ap, subst, inl, inr, arith}
 use Rattle.std.specs.Prelude.{Some, Result, Ok, Err}
 use Rattle.std.proofs.lemmas.Bool.{cases_order}
-use Rattle.std.proofs.lemmas.List.{length-map, ext_get_or}
+use Rattle.std.proofs.lemmas.List.{length-map}
 use Rattle.book_outer.specs.Files.{FileEntry, content}
-use Rattle.relax_system.specs.Means.{AtMost}
 use Rattle.book_files.specs.declared.records.FileKind.{FileKind}
 use Rattle.book_files.specs.declared.fault.TextFault.{TextFault}
 use Rattle.book_files.specs.Entries.{AuxEntry}
 use Rattle.book_files.specs.declared.loading.TheConstants.{MOST_BYTES}
 use Rattle.book_design.specs.Records.{Records}
-use Rattle.book_design.specs.Values.{DesignValue}
+use Rattle.book_design.specs.Values.{NodeValue, DesignValue}
 use Rattle.pad_reach.specs.Chain.{Joint, HasChain}
 use Rattle.pad_reach.specs.Reaches.{IsFirstUnanchored}
 use Rattle.net_model.specs.Values.{NetworkValue}
 use Rattle.net_model.specs.Webs.{joints_of}
-use Rattle.core_system.specs.declared.axis.Axis.{Axis}
-use Rattle.core_system.specs.declared.axis.Axis.TheVariants.{X, Y}
+use Rattle.level_run.specs.declared.level.Level.{Level}
+use Rattle.level_run.specs.Levels.{level_at}
 use Rattle.proud_top.specs.declared.status.Refusal.{Refusal}
 use Rattle.proud_top.specs.declared.status.Refusal.TheVariants.{TooLong, Text, Design, Net, Unanchored}
 use Rattle.proud_top.specs.Accepted.{Accepts, IsFaultOf, IsTooLong, IsBadText}
-use Rattle.proud_top.specs.Solve.{SolveValue, IsSolveOf, SolvedValue}
+use Rattle.proud_top.specs.Request.{RequestValue}
+use Rattle.proud_top.specs.Report.{report_of, IsReportOf}
 use Rattle.proud_top.specs.Flow.{◌then◌, reads_known, reads, joins, wires, reaches, solves, reports, places_records, places}
 use Rattle.proud_top.proofs.Once.{OneAnswer, one_text, long_stops, bad_stops, next_once, stops_once, accepts_all, accepts_once, fault_once}
 
@@ -148,55 +148,49 @@ one_reaches network (Ok x) (Err q) h (g, d, k) = absurd (k.none (h g (rw length-
 one_reaches network (Err r) (Ok y) (f, e, h) k = absurd (h.none (k f (rw length-map at h.there)))
 one_reaches network (Err r) (Err q) (f, e, h) (g, d, k) = ap Err (e ∙ ap Unanchored (one_unanchored (joints_of network) f g h k) ∙ sym d)
 
-same_vector : (u v : List ℕ) (n : ℕ) → length u ≡ n → length v ≡ n → AtMost u v → AtMost v u → u ≡ v
-same_vector u v n many these up down = ext_get_or 0 u v (omega (arith, many, these)) (λ i inside. omega (arith, up i, down i))
+-- a network has one list of levels
+pub one_solves : OneAnswer → (network : NetworkValue) (count : ℕ) (a b : Result (List Level) Refusal) → solves network count a → solves network count b → a ≡ b
+one_solves one network count (Ok a) (Ok b) h k = ap Ok (one.levels network count a b h.levels_are k.levels_are)
+one_solves one network count (Ok a) (Err q) h k = absurd k
+one_solves one network count (Err r) b h k = absurd h
 
--- no least vector is above another, and no greatest below
-one_solve : (axis : Axis) (network : NetworkValue) (a b : SolveValue) → IsSolveOf axis network a → IsSolveOf axis network b → a ≡ b
-one_solve axis network a b h k =
-    let lo = same_vector a.lo b.lo _ h.least.in_boxes.all k.least.in_boxes.all (h.least.least b.lo k.least.in_boxes k.least.pre_fixed) (k.least.least a.lo h.least.in_boxes h.least.pre_fixed) in
-    let hi = same_vector a.hi b.hi _ h.greatest.in_boxes.all k.greatest.in_boxes.all (k.greatest.greatest a.hi h.greatest.in_boxes h.greatest.post_fixed) (h.greatest.greatest b.hi k.greatest.in_boxes k.greatest.post_fixed) in
-    let of : List ℕ → List ℕ → SolveValue = λ lower upper. record { lo = lower; hi = upper } in
-    ap (λ (v : List ℕ). of v a.hi) lo ∙ ap (λ (v : List ℕ). of b.lo v) hi
+-- and levels have one gap
+one_report : OneAnswer → (nodes : List NodeValue) (count : ℕ) (levels : List Level) (s t : List ℕ) → IsReportOf nodes count levels s → IsReportOf nodes count levels t → s ≡ t
+one_report one nodes count levels s t h k =
+    h.lines ∙ ap (λ (gap : ℕ). report_of nodes (level_at levels count) count gap) (one.gap levels h.gap k.gap h.is_gap k.is_gap) ∙ sym k.lines
 
-pub one_solves : (network : NetworkValue) (a b : Result SolvedValue Refusal) → solves network a → solves network b → a ≡ b
-one_solves network (Ok a) (Ok b) h k =
-    let of : SolveValue → SolveValue → SolvedValue = λ x y. record { x = x; y = y } in
-    ap Ok (ap (λ (x : SolveValue). of x a.y) (one_solve X network a.x b.x h.x k.x) ∙ ap (λ (y : SolveValue). of b.x y) (one_solve Y network a.y b.y h.y k.y))
-one_solves network (Ok a) (Err q) h k = absurd k
-one_solves network (Err r) b h k = absurd h
+pub one_reports : OneAnswer → (design : DesignValue) (count : ℕ) (levels : List Level) (a b : Result (List ℕ) Refusal) → reports design count levels a → reports design count levels b → a ≡ b
+one_reports one design count levels (Ok s) (Ok t) h k = ap Ok (one_report one design.nodes count levels s t h k)
+one_reports one design count levels (Ok s) (Err q) h k = absurd k
+one_reports one design count levels (Err r) b h k = absurd h
 
-pub one_reports : (design : DesignValue) (solved : SolvedValue) (a b : Result (List ℕ) Refusal) → reports design solved a → reports design solved b → a ≡ b
-one_reports design solved (Ok s) (Ok t) h k = ap Ok (h ∙ sym k)
-one_reports design solved (Ok s) (Err q) h k = absurd k
-one_reports design solved (Err r) b h k = absurd h
+abbrev from_solves : ℕ → DesignValue → NetworkValue → Result (List ℕ) Refusal → Type 0
+from_solves count design network = solves network count then λ levels. reports design count levels
 
-abbrev from_solves : DesignValue → NetworkValue → Result (List ℕ) Refusal → Type 0
-from_solves design network = solves network then λ solved. reports design solved
+abbrev from_reaches : ℕ → DesignValue → NetworkValue → Result (List ℕ) Refusal → Type 0
+from_reaches count design network = reaches network then λ done. solves network count then λ levels. reports design count levels
 
-abbrev from_reaches : DesignValue → NetworkValue → Result (List ℕ) Refusal → Type 0
-from_reaches design network = reaches network then λ done. solves network then λ solved. reports design solved
+abbrev from_wires : ℕ → DesignValue → Result (List ℕ) Refusal → Type 0
+from_wires count design = wires design then λ network. reaches network then λ done. solves network count then λ levels. reports design count levels
 
-abbrev from_wires : DesignValue → Result (List ℕ) Refusal → Type 0
-from_wires design = wires design then λ network. reaches network then λ done. solves network then λ solved. reports design solved
-
-pub one_end : OneAnswer → (files : List FileEntry) (word : List ℕ) (a b : Result (List ℕ) Refusal) → places (Some files) word a → places (Some files) word b → a ≡ b
-one_end one files word =
-    one_then (reads (Some files) word) places_records (one_reads one files word) (λ records.
-    one_then (joins records) from_wires (one_joins one records) (λ design.
-    one_then (wires design) (from_reaches design) (one_wires one design) (λ network.
-    one_then (reaches network) (λ done. from_solves design network) (one_reaches network) (λ done.
-    one_then (solves network) (reports design) (one_solves network) (one_reports design)))))
+pub one_end : OneAnswer → (files : List FileEntry) (request : RequestValue) (a b : Result (List ℕ) Refusal) → places (Some files) request a → places (Some files) request b → a ≡ b
+one_end one files request =
+    let count = request.levels in
+    one_then (reads (Some files) request.design) (places_records count) (one_reads one files request.design) (λ records.
+    one_then (joins records) (from_wires count) (one_joins one records) (λ design.
+    one_then (wires design) (from_reaches count design) (one_wires one design) (λ network.
+    one_then (reaches network) (λ done. from_solves count design network) (one_reaches network) (λ done.
+    one_then (solves network count) (reports design count) (one_solves one network count) (one_reports one design count)))))
 
 -- what is placed is refused for nothing
-pub never_refused : OneAnswer → (files : List FileEntry) (word : List ℕ) (names : AuxEntry) (records : Records) (design : DesignValue) (network : NetworkValue) (refusal : Refusal)
-    → Accepts files word names records → joins records (Ok design) → wires design (Ok network) → ((p : ℕ) → p < length network.points → HasChain (joints_of network) p)
-    → places (Some files) word (Err refusal) → ⊥
-never_refused one files word names records design network refusal accepted joined wired chains flow =
-    let behind_files = through (reads (Some files) word) places_records records (Err refusal) (one_reads one files word) (names, accepted) flow in
-    let behind_join = through (joins records) from_wires design (Err refusal) (one_joins one records) joined behind_files in
-    let behind_wires = through (wires design) (from_reaches design) network (Err refusal) (one_wires one design) wired behind_join in
-    none (through (reaches network) (λ done. from_solves design network) tt (Err refusal) (one_reaches network) chains behind_wires) where
-      none : from_solves design network (Err refusal) → ⊥
+pub never_refused : OneAnswer → (files : List FileEntry) (request : RequestValue) (names : AuxEntry) (records : Records) (design : DesignValue) (network : NetworkValue) (refusal : Refusal)
+    → Accepts files request.design names records → joins records (Ok design) → wires design (Ok network) → ((p : ℕ) → p < length network.points → HasChain (joints_of network) p)
+    → places (Some files) request (Err refusal) → ⊥
+never_refused one files request names records design network refusal accepted joined wired chains flow =
+    let behind_files = through (reads (Some files) request.design) (places_records request.levels) records (Err refusal) (one_reads one files request.design) (names, accepted) flow in
+    let behind_join = through (joins records) (from_wires request.levels) design (Err refusal) (one_joins one records) joined behind_files in
+    let behind_wires = through (wires design) (from_reaches request.levels design) network (Err refusal) (one_wires one design) wired behind_join in
+    none (through (reaches network) (λ done. from_solves request.levels design network) tt (Err refusal) (one_reaches network) chains behind_wires) where
+      none : from_solves request.levels design network (Err refusal) → ⊥
       none (inl h) = h
-      none (inr (solved, is, h)) = h
+      none (inr (levels, is, h)) = h

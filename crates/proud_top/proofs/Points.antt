@@ -13,13 +13,17 @@ use Rattle.book_design.specs.Points.{is_movable, node_value_at, movable_before}
 use Rattle.net_model.specs.Values.{NetworkValue}
 use Rattle.net_model.specs.declared.fault.NetFault.TheVariants.{Heavy}
 use Rattle.net_model.specs.Network.{IsNetwork, IsFirstFault, point_nodes, point_value}
-use Rattle.core_system.specs.declared.axis.Axis.{Axis}
-use Rattle.core_system.specs.CoreSystem.{point_of}
+use Rattle.area_cut.specs.declared.axis.Axis.{Axis}
+use Rattle.area_cut.specs.declared.axis.Axis.TheVariants.{X, Y}
+use Rattle.area_cut.specs.declared.region.Region.{Region}
+use Rattle.level_run.specs.declared.level.Solve.{Solve}
+use Rattle.level_run.specs.declared.level.Level.{Level}
+use Rattle.level_run.specs.LevelSystem.{level_point, level_system}
+use Rattle.level_run.specs.Levels.{IsSolve, IsLevel, IsLevels, no_level, level_at}
 use Rattle.pad_reach.specs.Reaches.{IsFirstUnanchored}
 use Rattle.net_model.specs.Webs.{joints_of}
 use Rattle.proud_top.specs.Report.{names_of}
-use Rattle.proud_top.specs.Solve.{SolveValue, IsSolveOf}
-use Rattle.proud_top.specs.Forms.Over.{IsOver}
+use Rattle.proud_top.specs.Forms.Over.{IsOver, IsLastOver}
 
 -- what stands past the end
 abbrev no_node : NodeValue
@@ -73,11 +77,37 @@ names_counted nodes = is_count_by (λ rest. length (names_of rest)) is_movable r
   by_test node rest true e = rw e refl
   by_test node rest false e = rw e (let same : suc (length (names_of rest)) ≡ 1 + length (names_of rest) = omega arith in same)
 
--- the solve of the network's system on an axis has an entry for each name
-pub solve_over : (axis : Axis) (design : DesignValue) (network : NetworkValue) (solve : SolveValue) → IsNetwork design network → IsSolveOf axis network solve → IsOver (length (names_of design.nodes)) solve
-solve_over axis design network solve made h =
-    let points = length-map network.points (point_of axis network.core) ∙ network_counted design network made ∙ sym (names_counted design.nodes) in
-    record { lo = h.least.in_boxes.all ∙ points; hi = h.greatest.in_boxes.all ∙ points }
+-- a solve of a level has an entry for each point
+solve_over : (axis : Axis) (network : NetworkValue) (regions : List Region) (mids : List ℕ) (solve : Solve) → IsSolve (level_system axis network regions mids) solve → IsOver (length network.points) solve
+solve_over axis network regions mids solve h =
+    let points = length-map-range_with_len (level_point axis network regions mids) 0 (length network.points) in
+    record { lo = h.lo.in_boxes.all ∙ points; hi = h.hi.in_boxes.all ∙ points }
+
+record IsBothOver (points : ℕ) (level : Level) : Type 0 where
+  pub x : IsOver points level.x
+  pub y : IsOver points level.y
+
+both_over : (network : NetworkValue) (regions : List Region) (xs ys : List ℕ) (level : Level) → IsLevel network regions xs ys level → IsBothOver (length network.points) level
+both_over network regions xs ys level h = record {
+  x = solve_over X network regions xs level.x h.x;
+  y = solve_over Y network regions ys level.y h.y;
+}
+
+level_over : (network : NetworkValue) (count : ℕ) (levels : List Level) → IsLevels network count levels → (k : ℕ) → k ≤ count → IsBothOver (length network.points) (level_at levels k)
+level_over network count levels h zero within = both_over network _ _ _ (level_at levels 0) (h.first no_level)
+level_over network count levels h (suc k) within =
+    let more : k + 1 ≡ suc k = omega arith in
+    let P : ℕ → Type 0 = λ j. IsBothOver (length network.points) (level_at levels j) in
+    subst P more (both_over network _ _ _ (level_at levels (k + 1)) (h.next k no_level (omega arith)))
+
+-- and the last level one for each name of the report
+pub last_over : (design : DesignValue) (network : NetworkValue) (count : ℕ) (levels : List Level) → IsNetwork design network → IsLevels network count levels → IsLastOver (length (names_of design.nodes)) count levels
+last_over design network count levels made h =
+    let points = network_counted design network made ∙ sym (names_counted design.nodes) in
+    let P : ℕ → Type 0 = λ n. IsBothOver n (level_at levels count) in
+    let over = subst P points (level_over network count levels h count (omega arith)) in
+    let many = h.many in
+    record { there = omega arith; x = over.x; y = over.y }
 
 -- a point that is too heavy, and one from which no chain leads, are points of the design
 pub heavy_there : (design : DesignValue) (point : ℕ) → IsFirstFault design (Heavy point) → point < count_by is_movable design.nodes

@@ -1,9 +1,9 @@
 -- From what is due, and what the put of it answered, to what the status says; and what that leaves possible.
-use Rattle.std.proofs.Common.{◌≡◌, ◌⊎◌, ◌++◌, ◌∷◌, ◌<◌, ℕ, List, [], length, take, refl, sym, ◌∙◌, ap, subst, inl, inr}
+use Rattle.std.proofs.Common.{◌≡◌, ◌⊎◌, ◌++◌, ◌∷◌, ℕ, List, [], refl, sym, ◌∙◌, ap, subst, inl, inr}
 use Rattle.std.specs.Prelude.{Option, Some, None, IfSome, Result, Ok, Err}
 use Rattle.std.specs.Io.KnownBytes.{Appends}
 use Rattle.book_outer.specs.Cause.{Rose}
-use Rattle.book_outer.specs.Files.{FileEntry, content}
+use Rattle.book_outer.specs.Files.{FileEntry}
 use Rattle.book_outer.specs.State.{FolderState, SinkState}
 use Rattle.book_files.specs.declared.records.FileKind.{FileKind}
 use Rattle.book_files.specs.declared.records.FileKind.TheVariants.{Scl}
@@ -18,19 +18,19 @@ use Rattle.net_model.specs.Network.{IsFirstFault as IsFirstNetFault}
 use Rattle.book_design.specs.Records.{Records}
 use Rattle.book_design.specs.Values.{DesignValue}
 use Rattle.proud_top.specs.declared.status.Refusal.{Refusal}
-use Rattle.proud_top.specs.declared.status.Refusal.TheVariants.{TooLong, Text, Design, Net, Unanchored}
+use Rattle.proud_top.specs.declared.status.Refusal.TheVariants.{Design, Net, Unanchored}
 use Rattle.proud_top.specs.declared.status.Status.{Status}
 use Rattle.proud_top.specs.declared.status.Status.TheVariants.{Done, Usage, Refused, ReadFault, WriteFault, Memory}
 use Rattle.proud_top.specs.declared.stop.Stop.{Stop}
 use Rattle.proud_top.specs.declared.stop.Stop.TheVariants as stop
-use Rattle.proud_top.specs.Request.{requested, beside}
-use Rattle.proud_top.specs.Accepted.{Reads, ReadsWeights, Accepts, IsFaultAt, IsLast}
-use Rattle.proud_top.specs.Flow.{places, places_records, reads, last_kind}
-use Rattle.proud_top.specs.Named.{node_of, point_of, node_of_fault, point_of_fault, IsNodeName, IsPointName, IsNameIn}
-use Rattle.proud_top.specs.Statuses.{GotFront, Got, HasReadUpTo, IsReport, IsCause, IsRefusal, IsUnread, IsMisused, IsDue, IsDone, IsUsage, IsRefused, IsReadFault, IsWriteFault, IsMemory, IsPlaceable, AreReadsCalm, ArePutsCalm}
+use Rattle.proud_top.specs.Request.{RequestValue, requested}
+use Rattle.proud_top.specs.Accepted.{ReadsWeights, Accepts}
+use Rattle.proud_top.specs.Flow.{places, reads, last_kind}
+use Rattle.proud_top.specs.Named.{node_of_fault, point_of_fault}
+use Rattle.proud_top.specs.Statuses.{status_of, GotFront, HasReadUpTo, IsReport, IsCause, IsDue, IsPlaceable, AreReadsCalm, ArePutsCalm}
 use Rattle.proud_top.specs.Forms.Saying.{Says, Puts}
 use Rattle.proud_top.specs.Forms.Inputs.{Texts, AreWeights, AreRecords, HoldsWeights, HasTexts, places_texts}
-use Rattle.proud_top.specs.Forms.Stops.{status_of, StopsReading, Gathers, Places, AreRecordsOf, HasNode, HasPoint, Covers, CoversStop, IsLineOf, Refuses}
+use Rattle.proud_top.specs.Forms.Stops.{StopsReading, Gathers, Places, HasNode, HasPoint, Covers, CoversStop, IsLineOf, Refuses}
 use Rattle.proud_top.proofs.Once.{OneAnswer}
 use Rattle.proud_top.proofs.OneEnd.{one_end, never_refused}
 use Rattle.proud_top.proofs.Naming.{named_among}
@@ -100,10 +100,10 @@ reads_texts None word texts records h k = tt
 reads_texts (Some files) word texts records h k = (h.names, accepts_texts files word texts records h k)
 
 -- the flow from the texts on is that from the files on
-flow_texts : (o : Option (List FileEntry)) (word : List ℕ) (texts : Texts) (end : Result (List ℕ) Refusal) → IfSome o (λ files. HasTexts files word texts) → places_texts texts end → places o word end
-flow_texts o word texts (Ok text) h flow = (flow.0, reads_texts o word texts flow.0 h flow.1, flow.2)
-flow_texts o word texts (Err refusal) h (inl none) = absurd none
-flow_texts o word texts (Err refusal) h (inr (records, read, rest)) = inr (records, reads_texts o word texts records h read, rest)
+flow_texts : (o : Option (List FileEntry)) (request : RequestValue) (texts : Texts) (end : Result (List ℕ) Refusal) → IfSome o (λ files. HasTexts files request.design texts) → places_texts request.levels texts end → places o request end
+flow_texts o request texts (Ok text) h flow = (flow.0, reads_texts o request.design texts flow.0 h flow.1, flow.2)
+flow_texts o request texts (Err refusal) h (inl none) = absurd none
+flow_texts o request texts (Err refusal) h (inr (records, read, rest)) = inr (records, reads_texts o request.design texts records h read, rest)
 
 -- a refusal behind the texts comes when all files were begun, and names nothing that isn't theirs
 fault_covered : (texts : Texts) (records : Records) (fault : DesignFault) → AreRecords texts records → IsFirstFault records fault → IfSome (node_of_fault fault) (HasNode texts)
@@ -130,56 +130,56 @@ late_as texts refusal other e h =
     let P : Refusal → Type 0 = λ r. Late texts r in
     subst P (sym e) h
 
-late : (texts : Texts) (refusal : Refusal) → places_texts texts (Err refusal) → Late texts refusal
-late texts refusal (inl none) = absurd none
-late texts refusal (inr (records, read, inl (fault, e, first))) = late_as texts refusal (Design fault) e (record { last = refl; covered = (fault_covered texts records fault read first, tt) })
-late texts refusal (inr (records, read, inr (design, joined, inl (fault, e, first)))) =
+late : (count : ℕ) (texts : Texts) (refusal : Refusal) → places_texts count texts (Err refusal) → Late texts refusal
+late count texts refusal (inl none) = absurd none
+late count texts refusal (inr (records, read, inl (fault, e, first))) = late_as texts refusal (Design fault) e (record { last = refl; covered = (fault_covered texts records fault read first, tt) })
+late count texts refusal (inr (records, read, inr (design, joined, inl (fault, e, first)))) =
     late_as texts refusal (Net fault) e (record { last = refl; covered = (tt, net_covered texts records design fault read joined first) })
-late texts refusal (inr (records, read, inr (design, joined, inr (network, made, inl (point, e, first))))) =
+late count texts refusal (inr (records, read, inr (design, joined, inr (network, made, inl (point, e, first))))) =
     late_as texts refusal (Unanchored point) e (record { last = refl; covered = (tt, record { records = records; design = design; read = read; joined = joined; there = loose_there design network point made first }) })
-late texts refusal (inr (records, read, inr (design, joined, inr (network, made, inr (done, chains, inl none))))) = absurd none
-late texts refusal (inr (records, read, inr (design, joined, inr (network, made, inr (done, chains, inr (solved, is, none)))))) = absurd none
+late count texts refusal (inr (records, read, inr (design, joined, inr (network, made, inr (done, chains, inl none))))) = absurd none
+late count texts refusal (inr (records, read, inr (design, joined, inr (network, made, inr (done, chains, inr (solved, is, none)))))) = absurd none
 
 pub covered_gather : (f f' : FolderState) (word : List ℕ) (s : Stop) → StopsReading f f' word s → CoversStop None s
 covered_gather f f' word (stop.Refused refusal) h = h.3
 covered_gather f f' word (stop.ReadFault kind) h = tt
 covered_gather f f' word stop.Memory h = tt
 
-pub covered_place : (texts : Texts) (s : Stop) → Places texts (Err s) → CoversStop (Some texts) s
-covered_place texts (stop.Refused refusal) h = (late texts refusal h).covered
-covered_place texts (stop.ReadFault kind) h = tt
-covered_place texts stop.Memory h = tt
+pub covered_place : (count : ℕ) (texts : Texts) (s : Stop) → Places count texts (Err s) → CoversStop (Some texts) s
+covered_place count texts (stop.Refused refusal) h = (late count texts refusal h).covered
+covered_place count texts (stop.ReadFault kind) h = tt
+covered_place count texts stop.Memory h = tt
 
 -- what is due where the reading of the files stopped
-pub due_gather : (words : List (List ℕ)) (word : List ℕ) (f f' : FolderState) → requested words ≡ Some word → (s : Stop) → StopsReading f f' word s
+pub due_gather : (words : List (List ℕ)) (request : RequestValue) (f f' : FolderState) → requested words ≡ Some request → (s : Stop) → StopsReading f f' request.design s
     → (line : List ℕ) → IsLineOf None s line → (s ≡ stop.Memory → ⊥) → IsDue (status_of s) words f f' line
-due_gather words word f f' asked (stop.Refused refusal) h line is other = record {
-  cause = record { word = word; asked = asked; flow = inl h.1 };
+due_gather words request f f' asked (stop.Refused refusal) h line is other = record {
+  cause = record { request = request; asked = asked; flow = inl h.1 };
   read = h.2;
   name = is.0;
   named = named_among refusal is.0 (λ records none. absurd none) is.1;
   line = is.2;
 }
-due_gather words word f f' asked (stop.ReadFault kind) h line is other = record { word = word; asked = asked; rose = h.1; at = h.2; line = is }
-due_gather words word f f' asked stop.Memory h line is other = absurd (other refl)
+due_gather words request f f' asked (stop.ReadFault kind) h line is other = record { request = request; asked = asked; rose = h.1; at = h.2; line = is }
+due_gather words request f f' asked stop.Memory h line is other = absurd (other refl)
 
 -- and where what the texts make is refused
-pub due_place : (words : List (List ℕ)) (word : List ℕ) (f f' : FolderState) (texts : Texts) → requested words ≡ Some word → Gathers f f' word (Ok texts) → (s : Stop) → Places texts (Err s)
+pub due_place : (words : List (List ℕ)) (request : RequestValue) (f f' : FolderState) (texts : Texts) → requested words ≡ Some request → Gathers f f' request.design (Ok texts) → (s : Stop) → Places request.levels texts (Err s)
     → (line : List ℕ) → IsLineOf (Some texts) s line → (s ≡ stop.Memory → ⊥) → IsDue (status_of s) words f f' line
-due_place words word f f' texts asked g (stop.Refused refusal) h line is other =
-    let R : FileKind → Type 0 = λ kind. HasReadUpTo kind word f f' in
+due_place words request f f' texts asked g (stop.Refused refusal) h line is other =
+    let R : FileKind → Type 0 = λ kind. HasReadUpTo kind request.design f f' in
     record {
-      cause = record { word = word; asked = asked; flow = flow_texts f.files word texts (Err refusal) g.1 h };
-      read = subst R (sym (late texts refusal h).last) g.2;
+      cause = record { request = request; asked = asked; flow = flow_texts f.files request texts (Err refusal) g.1 h };
+      read = subst R (sym (late request.levels texts refusal h).last) g.2;
       name = is.0;
-      named = named_among refusal is.0 (λ records read. reads_texts f.files word texts records g.1 read) is.1;
+      named = named_among refusal is.0 (λ records read. reads_texts f.files request.design texts records g.1 read) is.1;
       line = is.2;
     }
-due_place words word f f' texts asked g (stop.ReadFault kind) h line is other = absurd h
-due_place words word f f' texts asked g stop.Memory h line is other = absurd (other refl)
+due_place words request f f' texts asked g (stop.ReadFault kind) h line is other = absurd h
+due_place words request f f' texts asked g stop.Memory h line is other = absurd (other refl)
 
-pub due_report : (words : List (List ℕ)) (word : List ℕ) (f f' : FolderState) (texts : Texts) (text : List ℕ) → requested words ≡ Some word → Gathers f f' word (Ok texts) → places_texts texts (Ok text) → IsReport words f f' text
-due_report words word f f' texts text asked g flow = record { word = word; asked = asked; flow = flow_texts f.files word texts (Ok text) g.1 flow; read = g.2 }
+pub due_report : (words : List (List ℕ)) (request : RequestValue) (f f' : FolderState) (texts : Texts) (text : List ℕ) → requested words ≡ Some request → Gathers f f' request.design (Ok texts) → places_texts request.levels texts (Ok text) → IsReport words f f' text
+due_report words request f f' texts text asked g flow = record { request = request; asked = asked; flow = flow_texts f.files request texts (Ok text) g.1 flow; read = g.2 }
 
 append_none : (xs : List ℕ) → xs ++ [] ≡ xs
 append_none [] = refl
@@ -209,14 +209,14 @@ says_stop words f f' s s' texts x result due (inr (line, other, is, put)) =
       no_write (stop.ReadFault kind) e = cc
       no_write stop.Memory e = cc
 
--- the flow of the one word that the words ask for
-one_word : (a b : List ℕ) → Some a ≡ Some b → a ≡ b
-one_word a b e = cc
+-- the flow of the one request that the words make
+one_request : (a b : RequestValue) → Some a ≡ Some b → a ≡ b
+one_request a b e = cc
 
-same_flow : (words : List (List ℕ)) (files : Option (List FileEntry)) (a b : List ℕ) (end : Result (List ℕ) Refusal) → requested words ≡ Some a → requested words ≡ Some b → places files a end → places files b end
+same_flow : (words : List (List ℕ)) (files : Option (List FileEntry)) (a b : RequestValue) (end : Result (List ℕ) Refusal) → requested words ≡ Some a → requested words ≡ Some b → places files a end → places files b end
 same_flow words files a b end ea eb h =
-    let P : List ℕ → Type 0 = λ word. places files word end in
-    subst P (one_word a b (sym ea ∙ eb)) h
+    let P : RequestValue → Type 0 = λ request. places files request end in
+    subst P (one_request a b (sym ea ∙ eb)) h
 
 abbrev refused_end : Refusal → Result (List ℕ) Refusal
 refused_end refusal = Err refusal
@@ -225,27 +225,27 @@ refused_end refusal = Err refusal
 pub only_refused : OneAnswer → (files : List FileEntry) (words : List (List ℕ)) (f f' : FolderState) (s s' : SinkState) (refusal : Refusal) (status : Status)
     → f.files ≡ Some files → IsCause words (Some files) refusal → AreReadsCalm f f' → Says status words f f' s s' → (status ≡ Refused refusal) ⊎ (status ≡ Memory)
 only_refused one files words f f' s s' refusal status is cause calm said = by_status status said where
-  ended : (word : List ℕ) (end : Result (List ℕ) Refusal) → requested words ≡ Some word → places f.files word end → end ≡ Err refusal
-  ended word end asked flow =
-      let P : Option (List FileEntry) → Type 0 = λ o. places o word end in
-      one_end one files word end (Err refusal) (subst P is flow) (same_flow words (Some files) cause.word word (Err refusal) cause.asked asked cause.flow)
+  ended : (request : RequestValue) (end : Result (List ℕ) Refusal) → requested words ≡ Some request → places f.files request end → end ≡ Err refusal
+  ended request end asked flow =
+      let P : Option (List FileEntry) → Type 0 = λ o. places o request end in
+      one_end one files request end (Err refusal) (subst P is flow) (same_flow words (Some files) cause.request request (Err refusal) cause.asked asked cause.flow)
 
   no_text : (text : List ℕ) → Ok text ≡ Err refusal → ⊥
   no_text text e = cc
 
   no_form : requested words ≡ None → ⊥
   no_form e = clash (sym e ∙ cause.asked) where
-    clash : None ≡ Some cause.word → ⊥
+    clash : None ≡ Some cause.request → ⊥
     clash c = cc
 
   same : (other : Refusal) → refused_end other ≡ refused_end refusal → Refused other ≡ Refused refusal
   same other e = cc
 
   by_status : (x : Status) → Says x words f f' s s' → (x ≡ Refused refusal) ⊎ (x ≡ Memory)
-  by_status Done h = absurd (no_text h.text (ended h.due.word (Ok h.text) h.due.asked h.due.flow))
-  by_status WriteFault h = absurd (no_text h.text (ended h.due.word (Ok h.text) h.due.asked h.due.flow))
+  by_status Done h = absurd (no_text h.text (ended h.due.request (Ok h.text) h.due.asked h.due.flow))
+  by_status WriteFault h = absurd (no_text h.text (ended h.due.request (Ok h.text) h.due.asked h.due.flow))
   by_status Usage h = absurd (no_form h.due.form)
-  by_status (Refused other) h = inl (same other (ended h.due.cause.word (Err other) h.due.cause.asked h.due.cause.flow))
+  by_status (Refused other) h = inl (same other (ended h.due.cause.request (Err other) h.due.cause.asked h.due.cause.flow))
   by_status (ReadFault kind) h = absurd (calm h.due.rose)
   by_status Memory h = inr refl
 
@@ -255,19 +255,19 @@ pub complete : OneAnswer → (files : List FileEntry) (words : List (List ℕ)) 
 complete one files words f f' s s' status is given calm quiet said = by_status status said where
   no_form : requested words ≡ None → ⊥
   no_form e = clash (sym e ∙ given.asked) where
-    clash : None ≡ Some given.word → ⊥
+    clash : None ≡ Some given.request → ⊥
     clash c = cc
 
-  no_refusal : (refusal : Refusal) (word : List ℕ) → requested words ≡ Some word → places f.files word (Err refusal) → ⊥
-  no_refusal refusal word asked flow =
-      let P : Option (List FileEntry) → Type 0 = λ o. places o word (Err refusal) in
-      never_refused one files given.word given.names given.records given.design given.network refusal given.accepted given.joined given.wired given.chains
-      (same_flow words (Some files) word given.word (Err refusal) asked given.asked (subst P is flow))
+  no_refusal : (refusal : Refusal) (request : RequestValue) → requested words ≡ Some request → places f.files request (Err refusal) → ⊥
+  no_refusal refusal request asked flow =
+      let P : Option (List FileEntry) → Type 0 = λ o. places o request (Err refusal) in
+      never_refused one files given.request given.names given.records given.design given.network refusal given.accepted given.joined given.wired given.chains
+      (same_flow words (Some files) request given.request (Err refusal) asked given.asked (subst P is flow))
 
   by_status : (x : Status) → Says x words f f' s s' → (x ≡ Done) ⊎ (x ≡ Memory)
   by_status Done h = inl refl
   by_status WriteFault h = absurd (quiet h.rose)
   by_status Usage h = absurd (no_form h.due.form)
-  by_status (Refused refusal) h = absurd (no_refusal refusal h.due.cause.word h.due.cause.asked h.due.cause.flow)
+  by_status (Refused refusal) h = absurd (no_refusal refusal h.due.cause.request h.due.cause.asked h.due.cause.flow)
   by_status (ReadFault kind) h = absurd (calm h.due.rose)
   by_status Memory h = inr refl

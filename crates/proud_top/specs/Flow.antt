@@ -18,8 +18,10 @@ use Rattle.net_model.specs.Webs.{joints_of}
 use Rattle.proud_top.specs.declared.status.Refusal.{Refusal}
 use Rattle.proud_top.specs.declared.status.Refusal.TheVariants.{TooLong, Text, Design, Net, Unanchored}
 use Rattle.proud_top.specs.Accepted.{Accepts, IsTooLong, IsBadText}
-use Rattle.proud_top.specs.Solve.{SolvedValue, IsSolved}
-use Rattle.proud_top.specs.Report.{report_of}
+use Rattle.level_run.specs.declared.level.Level.{Level}
+use Rattle.proud_top.specs.Request.{RequestValue}
+use Rattle.proud_top.specs.Solve.{AreSolved}
+use Rattle.proud_top.specs.Report.{IsReportOf}
 
 -- one step behind another, which goes on with what the first makes
 infixl 10 ◌then◌
@@ -56,22 +58,23 @@ abbrev pub reaches : NetworkValue → Result (Unit {0}) Refusal → Type 0
 reaches network (Ok done) = (p : ℕ) → p < length network.points → HasChain (joints_of network) p
 reaches network (Err refusal) = (point : ℕ) × (refusal ≡ Unanchored point) × IsFirstUnanchored (joints_of network) point
 
--- the least and the greatest vector on each axis
-abbrev pub solves : NetworkValue → Result SolvedValue Refusal → Type 0
-solves network (Ok solved) = IsSolved network solved
-solves network (Err refusal) = ⊥
+-- the levels of the network, so many after the first, each solved on both axes
+abbrev pub solves : NetworkValue → ℕ → Result (List Level) Refusal → Type 0
+solves network count (Ok levels) = AreSolved network count levels
+solves network count (Err refusal) = ⊥
 
-abbrev pub reports : DesignValue → SolvedValue → Result (List ℕ) Refusal → Type 0
-reports design solved (Ok text) = text ≡ report_of design solved.x solved.y
-reports design solved (Err refusal) = ⊥
+-- the report of the last level
+abbrev pub reports : DesignValue → ℕ → List Level → Result (List ℕ) Refusal → Type 0
+reports design count levels (Ok text) = IsReportOf design.nodes count levels text
+reports design count levels (Err refusal) = ⊥
 
 -- the steps from the records on
-abbrev pub places_records : Records → Result (List ℕ) Refusal → Type 0
-places_records records = joins records then λ design. wires design then λ network. reaches network then λ done. solves network then λ solved. reports design solved
+abbrev pub places_records : ℕ → Records → Result (List ℕ) Refusal → Type 0
+places_records count records = joins records then λ design. wires design then λ network. reaches network then λ done. solves network count then λ levels. reports design count levels
 
 -- The whole flow: the report of what the design's files make, or the refusal at the first step that stops.
-abbrev pub places : Option (List FileEntry) → List ℕ → Result (List ℕ) Refusal → Type 0
-places files word = reads files word then places_records
+abbrev pub places : Option (List FileEntry) → RequestValue → Result (List ℕ) Refusal → Type 0
+places files request = reads files request.design then places_records request.levels
 
 -- the last file that is begun before a refusal
 abbrev pub last_kind : Refusal → FileKind

@@ -26,7 +26,7 @@ abbrev pub ended : List ℕ → List ℕ
 ended text = text ++ 10 ∷ []
 
 abbrev pub usage_line : List ℕ
-usage_line = ended (codes "usage: proud [--seats N] DESIGN")
+usage_line = ended (codes "usage: proud [--levels N] [--seats N] DESIGN")
 
 abbrev pub cannot_read_line : FileKind → List ℕ
 cannot_read_line kind = ended (codes "proud: cannot read " ++ kind_text kind)
@@ -80,12 +80,12 @@ net_cause (NetTooWide number) name = wide_cause number
 net_cause (TooManyEdges number) name = edges_cause number
 net_cause (Heavy point) name = node_cause name (codes "too heavy")
 
--- a file of that kind is longer than a file may be
-abbrev pub long_cause : List ℕ → List ℕ
-long_cause kind = kind ++ codes ": longer than " ++ decimal MOST_BYTES ++ codes " bytes"
+-- what is wrong with the size of a file
+abbrev pub size_cause : FileKind → List ℕ → ℕ → List ℕ
+size_cause kind wrong bytes = kind_text kind ++ codes ": " ++ wrong ++ codes " " ++ decimal bytes ++ codes " bytes"
 
 abbrev pub cause_text : Refusal → List ℕ → List ℕ
-cause_text (TooLong kind) name = long_cause (kind_text kind)
+cause_text (TooLong kind) name = size_cause kind (codes "longer than") MOST_BYTES
 cause_text (Text kind fault) name = line_place kind fault.line ++ text_cause fault.kind
 cause_text (Design fault) name = design_cause fault name
 cause_text (Net fault) name = net_cause fault name

@@ -1,31 +1,59 @@
 -- What the words of a command line ask for, and where the files of a design stand.
-use Rattle.std.specs.Prelude.{ℕ, ◌-◌, ◌==◌, ◌&&◌, Bool, not, List, [], ◌∷◌, ◌++◌, length, take, codes, bytes_eq, nat_le, if◌then◌else◌, Option, Some, None, option_map, Result, Ok, Err}
+use Rattle.std.specs.Prelude.{ℕ, ◌-◌, ◌==◌, ◌&&◌, Bool, not, List, [], ◌∷◌, ◌++◌, length, take, codes, bytes_eq, nat_le, if◌then◌else◌, Option, Some, None, Result, Ok, Err}
 use Rattle.std.specs.List.{suffix_len}
 use Rattle.relax_crew.specs.declared.range.TheConstants.{MOST_SEATS}
+use Rattle.level_run.specs.declared.hierarchy.TheConstants.{MOST_LEVELS}
+use Rattle.proud_top.specs.declared.request.TheConstants.{USUAL_LEVELS, USUAL_SEATS}
 use Rattle.book_text.specs.declared.number.NumberFault.{NumberFault}
 use Rattle.book_text.specs.Whole.{whole_value}
+
+-- what is asked for: the word of a design, and how often the regions are cut
+pub record RequestValue : Type 0 where
+  pub design : List ℕ
+  pub levels : ℕ
+
+-- a number of levels that may be asked for, from 0 to 12
+abbrev pub as_levels : Result ℕ NumberFault → Option ℕ
+as_levels (Ok levels) = if nat_le levels MOST_LEVELS then Some levels else None
+as_levels (Err fault) = None
 
 -- a number of seats that may be asked for, from 1 to 64
 abbrev pub as_seats : Result ℕ NumberFault → Option ℕ
 as_seats (Ok seats) = if nat_le 1 seats && nat_le seats MOST_SEATS then Some seats else None
 as_seats (Err fault) = None
 
--- the number of seats that a word asks for: a whole word from 1 to 64
+-- the number of levels, or of seats, that a word asks for: a whole word in that range
+abbrev pub levels_in : List ℕ → Option ℕ
+levels_in word = as_levels (whole_value word)
+
 abbrev pub seats_in : List ℕ → Option ℕ
 seats_in word = as_seats (whole_value word)
 
--- the number of seats that an option asks for
+-- the number of levels, or of seats, that an option asks for
+abbrev pub levels_by : List ℕ → List ℕ → Option ℕ
+levels_by option number = if bytes_eq option (codes "--levels") then levels_in number else None
+
 abbrev pub seats_by : List ℕ → List ℕ → Option ℕ
 seats_by option number = if bytes_eq option (codes "--seats") then seats_in number else None
 
--- The design's word, where exactly one word stands behind the program's name, or one behind an option of seats.
-abbrev pub requested : List (List ℕ) → Option (List ℕ)
-requested (program ∷ design ∷ []) = Some design
-requested (program ∷ option ∷ number ∷ design ∷ []) = option_map (λ seats. design) (seats_by option number)
+-- the design with so many levels, where both numbers may be asked for
+abbrev pub asks : List ℕ → Option ℕ → Option ℕ → Option RequestValue
+asks design None seats = None
+asks design (Some levels) None = None
+asks design (Some levels) (Some seats) = Some (record { design = design; levels = levels })
+
+-- What the words behind the program's name ask for: a design, alone or behind an option of levels, one of seats, or both in this
+-- order. How many seats there are is no part of it, since nothing that is promised depends on them.
+abbrev pub requested : List (List ℕ) → Option RequestValue
+requested (program ∷ design ∷ []) = asks design (Some USUAL_LEVELS) (Some USUAL_SEATS)
+requested (program ∷ option ∷ number ∷ design ∷ []) = if bytes_eq option (codes "--levels") then asks design (levels_in number) (Some USUAL_SEATS)
+    else asks design (Some USUAL_LEVELS) (seats_by option number)
+requested (program ∷ option ∷ number ∷ second ∷ seats ∷ design ∷ []) = asks design (levels_by option number) (seats_by second seats)
 requested [] = None
 requested (program ∷ []) = None
 requested (program ∷ option ∷ number ∷ []) = None
-requested (program ∷ option ∷ number ∷ design ∷ more ∷ rest) = None
+requested (program ∷ option ∷ number ∷ second ∷ seats ∷ []) = None
+requested (program ∷ option ∷ number ∷ second ∷ seats ∷ design ∷ more ∷ rest) = None
 
 abbrev pub is_no_slash : ℕ → Bool
 is_no_slash b = not (b == 47)

@@ -17,11 +17,19 @@ use Rattle.net_model.specs.Webs.{joints_of}
 use Rattle.proud_top.specs.declared.status.Refusal.{Refusal}
 use Rattle.proud_top.specs.declared.status.Status.{Status}
 use Rattle.proud_top.specs.declared.status.Status.TheVariants.{Done, Usage, Refused, ReadFault, WriteFault, Memory}
+use Rattle.proud_top.specs.declared.stop.Stop.{Stop}
+use Rattle.proud_top.specs.declared.stop.Stop.TheVariants as stop
 use Rattle.proud_top.specs.Lines.{usage_line, cannot_read_line, refusal_line}
-use Rattle.proud_top.specs.Request.{requested}
+use Rattle.proud_top.specs.Request.{RequestValue, requested}
 use Rattle.proud_top.specs.Accepted.{Accepts, IsFaultAt, IsLast}
 use Rattle.proud_top.specs.Flow.{reads, places, last_kind}
 use Rattle.proud_top.specs.Named.{IsNameIn}
+
+-- the status of a run that stopped before there was a report
+abbrev pub status_of : Stop → Status
+status_of (stop.ReadFault kind) = ReadFault kind
+status_of (stop.Refused refusal) = Refused refusal
+status_of stop.Memory = Memory
 
 -- Up to the file of the kind all were begun and none was absent, where the files are known; and no read fault was counted.
 pub record HasReadUpTo (kind : FileKind) (word : List ℕ) (old new : FolderState) : Type 0 where
@@ -30,31 +38,31 @@ pub record HasReadUpTo (kind : FileKind) (word : List ℕ) (old new : FolderStat
 
 -- The words ask for a design, of which the text is the report.
 pub record IsReport (words : List (List ℕ)) (old new : FolderState) (text : List ℕ) : Type 0 where
-  pub word : List ℕ
-  pub asked : requested words ≡ Some word
-  pub flow : places old.files word (Ok text)
-  pub read : HasReadUpTo Scl word old new
+  pub request : RequestValue
+  pub asked : requested words ≡ Some request
+  pub flow : places old.files request (Ok text)
+  pub read : HasReadUpTo Scl request.design old new
 
 -- the words ask for a design that is refused by this
 pub record IsCause (words : List (List ℕ)) (files : Option (List FileEntry)) (refusal : Refusal) : Type 0 where
-  pub word : List ℕ
-  pub asked : requested words ≡ Some word
-  pub flow : places files word (Err refusal)
+  pub request : RequestValue
+  pub asked : requested words ≡ Some request
+  pub flow : places files request (Err refusal)
 
 -- and this is the line that says so, with the name of the node that the refusal names
 pub record IsRefusal (words : List (List ℕ)) (old new : FolderState) (refusal : Refusal) (text : List ℕ) : Type 0 where
   pub cause : IsCause words old.files refusal
-  pub read : HasReadUpTo (last_kind refusal) cause.word old new
+  pub read : HasReadUpTo (last_kind refusal) cause.request.design old new
   pub name : List ℕ
-  pub named : IsNameIn (λ records. reads old.files cause.word (Ok records)) refusal name
+  pub named : IsNameIn (λ records. reads old.files cause.request.design (Ok records)) refusal name
   pub line : text ≡ refusal_line refusal name
 
 -- A read fault was counted at the file of the kind.
 pub record IsUnread (words : List (List ℕ)) (old new : FolderState) (kind : FileKind) (text : List ℕ) : Type 0 where
-  pub word : List ℕ
-  pub asked : requested words ≡ Some word
+  pub request : RequestValue
+  pub asked : requested words ≡ Some request
   pub rose : Rose old.read_faults new.read_faults
-  pub at : IfSome old.files (λ files. IsFaultAt files word kind old new)
+  pub at : IfSome old.files (λ files. IsFaultAt files request.design kind old new)
   pub line : text ≡ cannot_read_line kind
 
 -- the words have another form
@@ -114,13 +122,13 @@ pub record IsMemory (words : List (List ℕ)) (folder folder' : FolderState) (re
 
 -- the design that the words ask for is accepted: its files have no fault, nor has what they make, and each point has a chain
 pub record IsPlaceable (words : List (List ℕ)) (files : List FileEntry) : Type 0 where
-  pub word : List ℕ
+  pub request : RequestValue
   pub names : AuxEntry
   pub records : Records
   pub design : DesignValue
   pub network : NetworkValue
-  pub asked : requested words ≡ Some word
-  pub accepted : Accepts files word names records
+  pub asked : requested words ≡ Some request
+  pub accepted : Accepts files request.design names records
   pub joined : IsJoined records design
   pub wired : IsNetwork design network
   pub chains : (p : ℕ) → p < length network.points → HasChain (joints_of network) p

@@ -2,9 +2,9 @@
 //!
 //! It is two lists of steps. What touches the outside is `run`: take the words, gather the texts of the design's files, place
 //! them, put the report; a step that stops puts its line instead. What is a function of values is `place`: join the texts to a
-//! design, make its network, find that each point reaches a pad, solve it on each axis from below and from above by a crew of
-//! seats, write the report. What comes in are words, a folder, a sink for the report and a gate; what goes out is a status. The
-//! one contract is that of `proud`, over the same list of steps as a definition (`specs/Flow.antt`).
+//! design, make its network, find that each point reaches a pad, cut the core and solve each level on each axis from below and
+//! from above by a crew of seats, write the report. What comes in are words, a folder, a sink for the report and a gate; what
+//! goes out is a status. The one contract is that of `proud`, over the same list of steps as a definition (`specs/Flow.antt`).
 //!
 //! The placer is modelled on PROUD (R.-S. Tsay, E. S. Kuh, C.-P. Hsu, IEEE Design & Test of Computers, 1988). It departs
 //! from it in that the equations are solved in whole numbers, from both sides, without over-relaxation.
@@ -18,7 +18,6 @@ mod place;
 mod refusal;
 mod report;
 mod request;
-mod solution;
 mod status;
 mod stop;
 mod top;

@@ -1,7 +1,7 @@
 //! The line of a stop: what it says, and the name of the node that it names.
 
 ghost use Rattle.std.specs.Prelude.{◌≡◌, ◌++◌, IfOk, IfSome, OnOk, option_map};
-ghost use Rattle.proud_top.specs.Lines.{kind_text, cannot_read_line, line_place, long_cause, count_cause, text_cause, node_cause, row_cause, limit_cause, design_cause, wide_cause, edges_cause, net_cause, cause_text, refusal_line};
+ghost use Rattle.proud_top.specs.Lines.{kind_text, cannot_read_line, line_place, size_cause, count_cause, text_cause, node_cause, row_cause, limit_cause, design_cause, wide_cause, edges_cause, net_cause, cause_text, refusal_line};
 ghost use Rattle.proud_top.specs.Named.{node_of, point_of, node_of_fault, point_of_fault, IsNameIn, IsNodeName, IsPointName};
 ghost use Rattle.proud_top.specs.Forms.Inputs.{AreRecords};
 ghost use Rattle.proud_top.specs.Forms.Stops.{AreRecordsOf, HasNode, HasPoint, Covers, CoversStop, IsLineOf};
@@ -137,7 +137,7 @@ fn push_cause(
     ensures { OnOk result (line.new.items ≡ line.old.items ++ cause_text refusal name.now) }
 {
     match refusal {
-        Refusal::TooLong(kind) => push_long(alloc, line, kind_text(kind)),
+        Refusal::TooLong(kind) => push_size(alloc, line, kind, "longer than", MOST_BYTES as u64),
         Refusal::Text(kind, fault) => {
             push_place(alloc, line, kind, fault.line)?;
             push_text_cause(alloc, line, fault.kind)
@@ -148,11 +148,17 @@ fn push_cause(
     }
 }
 
-/// Appends that a file is longer than a file may be.
-fn push_long(alloc: Global, line: &mut Vec<u8>, kind: &str) -> Result<(), Memory>
-    ensures { OnOk result (line.new.items ≡ line.old.items ++ long_cause kind.now) }
+/// Appends what is wrong with the size of a file.
+fn push_size(
+    alloc: Global,
+    line: &mut Vec<u8>,
+    kind: FileKind,
+    wrong: &str,
+    bytes: u64,
+) -> Result<(), Memory>
+    ensures { OnOk result (line.new.items ≡ line.old.items ++ size_cause kind wrong.now bytes) }
 {
-    let cause = format!(in alloc; "{kind}: longer than {MOST_BYTES} bytes")?;
+    let cause = format!(in alloc; "{}: {wrong} {bytes} bytes", kind_text(kind))?;
     push(line, cause.as_str())
 }
 

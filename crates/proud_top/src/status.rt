@@ -56,7 +56,7 @@ impl Status {
 }
 
 impl From<Stop> for Status {
-    ghost use Rattle.proud_top.specs.Forms.Stops.{status_of};
+    ghost use Rattle.proud_top.specs.Statuses.{status_of};
 
     ghost from_gives = { λ stop status. status ≡ status_of stop };
 

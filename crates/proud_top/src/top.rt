@@ -2,7 +2,7 @@ ghost use Rattle.std.specs.Prelude.{◌≡◌, ◌⊎◌, ℕ, List, Some, None,
 ghost use Rattle.book_outer.specs.Files.{FileEntry};
 ghost use Rattle.book_files.specs.declared.records.FileKind.{FileKind};
 ghost use Rattle.proud_top.specs.declared.status.Refusal.{Refusal};
-ghost use Rattle.proud_top.specs.Request.{requested};
+ghost use Rattle.proud_top.specs.Request.{RequestValue, requested};
 ghost use Rattle.proud_top.specs.Flow.{places};
 ghost use Rattle.proud_top.specs.Statuses.{IsDone, IsUsage, IsRefused, IsReadFault, IsWriteFault, IsMemory, IsCause, IsPlaceable, AreReadsCalm, ArePutsCalm, IsUntouched};
 ghost use Rattle.proud_top.specs.Forms.Saying.{Says, Puts};
@@ -23,10 +23,10 @@ use std::thread::Threads;
 
 /// Places the design that the words name, and reports for each cell its lower and its upper coordinate on each axis.
 ///
-/// The words are the program's name, `--seats N` where a number of seats is asked for, and the name of the design's aux
-/// file. The report gets one line per cell, `NAME XLO XHI YLO YHI` in millionths of a Bookshelf unit, or, where the words, a
-/// file or the design is at fault, one line that says so. It doesn't depend on the number of seats, which are 4 where none
-/// is asked for. The gate is called in the first sweep of each crew.
+/// The words are the program's name, `--levels N` and `--seats N` where a number of levels or of seats is asked for, and the
+/// name of the design's aux file; 4 levels and 4 seats are usual. The report gets one line per cell, `NAME XLO XHI YLO YHI` in
+/// millionths of a Bookshelf unit, and then `levels L gap G`, or, where the words, a file or the design is at fault, one line
+/// that says so. It doesn't depend on the number of seats. The gate is called in the first sweep of each crew.
 pub fn proud<R: Threads + Sync, F: Folder, S: Sink, G: Gate>(
     rt: &R,
     alloc: Global,
@@ -53,8 +53,8 @@ pub fn proud<R: Threads + Sync, F: Folder, S: Sink, G: Gate>(
         → ((result ≡ Status.Usage) ⊎ (result ≡ Status.Memory)) × (F.state folder.new ≡ F.state folder.old) }
 
     // Where the files are known, the flow has one end at most, and a run without a fault has it.
-    ensures one_end { (files : List FileEntry) (word : List ℕ) (a b : Result (List ℕ) Refusal)
-        → places (Some files) word a → places (Some files) word b → a ≡ b }
+    ensures one_end { (files : List FileEntry) (request : RequestValue) (a b : Result (List ℕ) Refusal)
+        → places (Some files) request a → places (Some files) request b → a ≡ b }
     ensures only_refused { (files : List FileEntry) (refusal : Refusal) → (F.state folder.old).files ≡ Some files
         → IsCause words.now (Some files) refusal → AreReadsCalm (F.state folder.old) (F.state folder.new)
         → (result ≡ Status.Refused refusal) ⊎ (result ≡ Status.Memory) }
@@ -70,7 +70,7 @@ pub fn proud<R: Threads + Sync, F: Folder, S: Sink, G: Gate>(
 }
 
 /// The line that is put where the words have another form.
-const USAGE_LINE: &[u8] = b"usage: proud [--seats N] DESIGN\n";
+const USAGE_LINE: &[u8] = b"usage: proud [--levels N] [--seats N] DESIGN\n";
 
 /// The run: what touches the outside, step by step.
 fn run<R: Threads + Sync, F: Folder, S: Sink, G: Gate>(
@@ -93,7 +93,7 @@ fn run<R: Threads + Sync, F: Folder, S: Sink, G: Gate>(
         Err(stop) => return refuse(alloc, report, stop, None),
     };
     let crew = Crew::new(rt, gate, request.seats);
-    match place(&crew, alloc, &inputs) {
+    match place(&crew, alloc, &inputs, request.levels) {
         Ok(placed) => put(report, &placed.report, Status::Done, Status::WriteFault),
         Err(stop) => refuse(alloc, report, stop, Some(&inputs)),
     }

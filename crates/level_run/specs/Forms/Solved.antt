@@ -1,5 +1,5 @@
 -- What a solved level gives the next one.
-use Rattle.std.specs.Prelude.{◌≡◌, ℕ, length}
+use Rattle.std.specs.Prelude.{◌≡◌, length}
 use Rattle.relax_system.specs.declared.valid.TheConstants.{MOST_COORDINATE}
 use Rattle.area_cut.specs.Regions.{AreShares}
 use Rattle.net_model.specs.Values.{NetworkValue}

@@ -17,11 +17,10 @@ use Rattle.book_files.specs.PlaceRules.{places_grammar}
 use Rattle.book_files.specs.RowRules.{rows_grammar}
 use Rattle.book_files.specs.declared.loading.TheConstants.{MOST_BYTES}
 use Rattle.book_design.specs.Records.{Records}
-use Rattle.book_design.specs.Values.{DesignValue}
 use Rattle.proud_top.specs.declared.status.Refusal.{Refusal}
 use Rattle.proud_top.specs.Request.{beside}
-use Rattle.proud_top.specs.Accepted.{Reads, IsFaultOf}
-use Rattle.proud_top.specs.Flow.{◌then◌, joins, places_records}
+use Rattle.proud_top.specs.Accepted.{IsFaultOf}
+use Rattle.proud_top.specs.Flow.{◌then◌, places_records}
 
 pub record Texts : Type 0 where
   pub aux : List ℕ
@@ -85,8 +84,8 @@ parses texts (Ok records) = AreRecords texts records
 parses texts (Err refusal) = ⊥
 
 -- the flow from the texts on
-abbrev pub places_texts : Texts → Result (List ℕ) Refusal → Type 0
-places_texts texts = parses texts then places_records
+abbrev pub places_texts : ℕ → Texts → Result (List ℕ) Refusal → Type 0
+places_texts count texts = parses texts then places_records count
 
 -- the file of the name holds the text
 pub record Holds (files : List FileEntry) (name text : List ℕ) : Type 0 where

@@ -24,10 +24,10 @@ use Rattle.proud_top.specs.declared.stop.Stop.{Stop}
 use Rattle.proud_top.specs.declared.stop.Stop.TheVariants.{ReadFault, Refused, Memory}
 use Rattle.proud_top.specs.Lines.{cannot_read_line, refusal_line}
 use Rattle.proud_top.specs.Accepted.{IsFaultAt}
-use Rattle.proud_top.specs.Flow.{reads, joins, places_records, last_kind}
+use Rattle.proud_top.specs.Flow.{reads, joins, last_kind}
 use Rattle.proud_top.specs.Named.{node_of, point_of, IsNameIn}
-use Rattle.proud_top.specs.Statuses.{HasReadUpTo, IsUntouched}
-use Rattle.proud_top.specs.Forms.Inputs.{Texts, AreRecords, HasTexts, parses, places_texts}
+use Rattle.proud_top.specs.Statuses.{status_of, HasReadUpTo, IsUntouched}
+use Rattle.proud_top.specs.Forms.Inputs.{Texts, AreRecords, HasTexts, places_texts}
 use Rattle.proud_top.specs.Forms.Saying.{Puts}
 
 abbrev pub stop_of_join : JoinError → Stop
@@ -41,11 +41,6 @@ stop_of_net net_error.Memory = Memory
 abbrev pub stop_of_reach : ReachError → Stop
 stop_of_reach (reach_error.Unanchored point) = Refused (Unanchored point)
 stop_of_reach reach_error.Memory = Memory
-
-abbrev pub status_of : Stop → Status
-status_of (ReadFault kind) = status.ReadFault kind
-status_of (Refused refusal) = status.Refused refusal
-status_of Memory = status.Memory
 
 -- the refusal names no node
 pub record IsNameless (refusal : Refusal) : Type 0 where
@@ -71,11 +66,11 @@ Designs texts (Err (ReadFault kind)) = ⊥
 Designs texts (Err Memory) = Unit {0}
 
 -- the report that the flow from the texts on ends with, or the refusal that stops it
-abbrev pub Places : Texts → Result Placed Stop → Type 0
-Places texts (Ok placed) = places_texts texts (Ok placed.report.items)
-Places texts (Err (Refused refusal)) = places_texts texts (Err refusal)
-Places texts (Err (ReadFault kind)) = ⊥
-Places texts (Err Memory) = Unit {0}
+abbrev pub Places : ℕ → Texts → Result Placed Stop → Type 0
+Places count texts (Ok placed) = places_texts count texts (Ok placed.report.items)
+Places count texts (Err (Refused refusal)) = places_texts count texts (Err refusal)
+Places count texts (Err (ReadFault kind)) = ⊥
+Places count texts (Err Memory) = Unit {0}
 
 -- the records as which the texts read, where there are any
 abbrev pub AreRecordsOf : Option Texts → Records → Type 0

@@ -1,7 +1,7 @@
 //! How many seats are asked for, and that they run at the same time.
 
 use super::{
-    Case, Texts, USAGE, assert_case, case_of, files_of, one_cell, terminals, two_cells, words_of,
+    Case, ONE_CELL, TERMINALS, TWO_CELLS, Texts, USAGE, assert_case, case_of, files_of, words_of,
 };
 use crate::{FileKind, Status, proud};
 use book_outer::{Calls, Gate, MemFolder, MemSink};
@@ -16,7 +16,7 @@ use std::thread::Threads;
 fn seats_may_be_asked_for(rt: HostRuntime) -> Result<(), Fail> {
     let line: &'static [u8] =
         b"a 3333333 3333334 4999999 5000001\nb 6666666 6666667 4999999 5000001\n";
-    let placed = case_of(two_cells(), Status::Done, line);
+    let placed = case_of(TWO_CELLS, Status::Done, line);
     let good: [&'static [&'static str]; 4] = [
         &["proud", "--seats", "1", "a.aux"],
         &["proud", "--seats", "7", "a.aux"],
@@ -26,7 +26,7 @@ fn seats_may_be_asked_for(rt: HostRuntime) -> Result<(), Fail> {
     for words in good {
         assert_case(&rt, rt.alloc(), Case { words, ..placed })?;
     }
-    let usage = case_of(two_cells(), Status::Usage, USAGE);
+    let usage = case_of(TWO_CELLS, Status::Usage, USAGE);
     let bad: [&'static [&'static str]; 7] = [
         &["proud", "--seats", "0", "a.aux"],
         &["proud", "--seats", "65", "a.aux"],
@@ -41,7 +41,7 @@ fn seats_may_be_asked_for(rt: HostRuntime) -> Result<(), Fail> {
     }
     // The only word is the name of a design.
     let unread = case_of(
-        two_cells(),
+        TWO_CELLS,
         Status::ReadFault(FileKind::Aux),
         b"proud: cannot read aux\n",
     );
@@ -49,7 +49,7 @@ fn seats_may_be_asked_for(rt: HostRuntime) -> Result<(), Fail> {
     assert_case(&rt, rt.alloc(), Case { words, ..unread })?;
     // Without a point no crew is needed.
     let words = &["proud", "--seats", "2", "a.aux"];
-    let empty = case_of(terminals(), Status::Done, b"");
+    let empty = case_of(TERMINALS, Status::Done, b"");
     assert_case(&rt, rt.alloc(), Case { words, ..empty })?;
     Ok(())
 }
@@ -107,7 +107,7 @@ impl Gate for Meeting {
 #[test]
 fn proud_meets(rt: HostRuntime) -> Result<(), Fail> {
     let alloc = rt.alloc();
-    let mut folder = MemFolder::new(files_of(alloc, two_cells())?, Calls::new(alloc));
+    let mut folder = MemFolder::new(files_of(alloc, TWO_CELLS)?, Calls::new(alloc));
     let mut report = MemSink::new(alloc, Calls::new(alloc));
     let words = words_of(alloc, &["proud", "--seats", "2", "a.aux"])?;
     let gate = Meeting {
@@ -130,7 +130,7 @@ fn four_cells() -> Texts<'static> {
             NetDegree : 2\nl B\na B\nNetDegree : 2\na B\nb B\nNetDegree : 2\nb B\nc B\n\
             NetDegree : 2\nc B\nd B\nNetDegree : 2\nd B\nr B\n",
         pl: b"UCLA pl 1.0\nl 0 5 : N /FIXED\nr 10 5 : N /FIXED\n",
-        ..one_cell()
+        ..ONE_CELL
     }
 }
 

@@ -3,8 +3,7 @@ use Rattle.level_run.proofs.One.{levels_there, levels_one}
 
 pub returns-clause-there : goal.returns-clause-there
 returns-clause-there c = λ network count net chains.
-    levels_there (record { shares = c.parts_share.ensures; homes = c.points_have_homes.ensures; least_there = c.least_vector.ensures.there; least_one = c.least_vector.ensures.one; greatest_there = c.greatest_vector.ensures.there; greatest_one = c.greatest_vector.ensures.one }) network net chains count
+    levels_there (record { shares = c.parts_share.ensures; homes = c.points_have_homes.ensures; least_there = c.least_vector.ensures.there; greatest_there = c.greatest_vector.ensures.there }) network net chains count
 
 pub returns-clause-one : goal.returns-clause-one
-returns-clause-one c = λ network count a b net chains one other.
-    levels_one (record { shares = c.parts_share.ensures; homes = c.points_have_homes.ensures; least_there = c.least_vector.ensures.there; least_one = c.least_vector.ensures.one; greatest_there = c.greatest_vector.ensures.there; greatest_one = c.greatest_vector.ensures.one }) network net chains count a b one other
+returns-clause-one c = levels_one

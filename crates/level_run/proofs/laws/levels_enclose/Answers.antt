@@ -4,11 +4,11 @@ use Rattle.level_run.proofs.laws.levels_enclose.Goals as goal
 
 pub returns-clause-valid : goal.returns-clause-valid
 returns-clause-valid c = λ network count levels axis k net chains is within.
-    let laws : Laws = record { shares = c.parts_share.ensures; homes = c.points_have_homes.ensures; least_there = c.least_vector.ensures.there; least_one = c.least_vector.ensures.one; greatest_there = c.greatest_vector.ensures.there; greatest_one = c.greatest_vector.ensures.one } in
+    let laws : Laws = record { shares = c.parts_share.ensures; homes = c.points_have_homes.ensures; least_there = c.least_vector.ensures.there; greatest_there = c.greatest_vector.ensures.there } in
     valid_at laws network net chains count levels is axis k (omega (arith, is.many))
 
 pub returns-clause-encloses : goal.returns-clause-encloses
 returns-clause-encloses c = λ network count levels axis k net chains is within.
-    let laws : Laws = record { shares = c.parts_share.ensures; homes = c.points_have_homes.ensures; least_there = c.least_vector.ensures.there; least_one = c.least_vector.ensures.one; greatest_there = c.greatest_vector.ensures.there; greatest_one = c.greatest_vector.ensures.one } in
-    let bounds : Bounds = record { ordered = c.enclosure.ensures.ordered; lower = c.enclosure.ensures.lower; upper = c.enclosure.ensures.upper; encloses = c.enclosure.ensures.encloses } in
+    let laws : Laws = record { shares = c.parts_share.ensures; homes = c.points_have_homes.ensures; least_there = c.least_vector.ensures.there; greatest_there = c.greatest_vector.ensures.there } in
+    let bounds : Bounds = record { lower_fixed = c.least_vector.ensures.fixed; upper_fixed = c.greatest_vector.ensures.fixed; ordered = c.enclosure.ensures.ordered; lower = c.enclosure.ensures.lower; upper = c.enclosure.ensures.upper; encloses = c.enclosure.ensures.encloses } in
     encloses_at laws network net chains bounds count levels is axis k (omega (arith, is.many))

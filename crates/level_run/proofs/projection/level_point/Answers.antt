@@ -1,4 +1,4 @@
-use Rattle.std.proofs.Common.{◌≡◌, ℕ, ◌*◌, ◌+◌, ◌^◌, ◌<◌, ◌≤◌, eqb, List, length, get_or, sym, ◌∙◌, ap, subst, arith}
+use Rattle.std.proofs.Common.{◌≡◌, ◌<◌, eqb, List, length, get_or, ◌∙◌, ap, arith}
 use Rattle.std.specs.Prelude.{All, map, filter, sum_by, slice_index}
 use Rattle.std.proofs.lemmas.List.Elements.{All-from_recursion, All-weaker, All-get_or}
 use Rattle.relax_system.specs.declared.valid.TheConstants.{MOST_COORDINATE}

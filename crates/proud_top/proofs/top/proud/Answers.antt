@@ -6,17 +6,17 @@ use Rattle.proud_top.proofs.top.proud.Goals as goal
 pub returns-clause-one_end : goal.returns-clause-one_end
 returns-clause-one_end g c files word a b h k =
     let law = c.laws.ensures in
-    let one : OneAnswer = record { aux = law.aux; nodes = law.nodes; nets = law.nets; wts = law.wts; pl = law.pl; scl = law.scl; join = law.join; network = law.network } in
+    let one : OneAnswer = record { aux = law.aux; nodes = law.nodes; nets = law.nets; wts = law.wts; pl = law.pl; scl = law.scl; join = law.join; network = law.network; levels = law.levels; gap = law.gap } in
     one_end one files word a b h k
 
 pub returns-clause-only_refused : goal.returns-clause-only_refused
 returns-clause-only_refused g c files refusal known cause calm =
     let law = c.laws.ensures in
-    let one : OneAnswer = record { aux = law.aux; nodes = law.nodes; nets = law.nets; wts = law.wts; pl = law.pl; scl = law.scl; join = law.join; network = law.network } in
+    let one : OneAnswer = record { aux = law.aux; nodes = law.nodes; nets = law.nets; wts = law.wts; pl = law.pl; scl = law.scl; join = law.join; network = law.network; levels = law.levels; gap = law.gap } in
     only_refused one files c.args.words.now _ _ (g.S.Sink.state c.args.report.now) (g.S.Sink.state c.run.new.report) refusal c.run.result known cause calm c.run.ensures.says
 
 pub returns-clause-complete : goal.returns-clause-complete
 returns-clause-complete g c files known given calm quiet =
     let law = c.laws.ensures in
-    let one : OneAnswer = record { aux = law.aux; nodes = law.nodes; nets = law.nets; wts = law.wts; pl = law.pl; scl = law.scl; join = law.join; network = law.network } in
+    let one : OneAnswer = record { aux = law.aux; nodes = law.nodes; nets = law.nets; wts = law.wts; pl = law.pl; scl = law.scl; join = law.join; network = law.network; levels = law.levels; gap = law.gap } in
     complete one files c.args.words.now _ _ _ _ c.run.result known given calm quiet c.run.ensures.says

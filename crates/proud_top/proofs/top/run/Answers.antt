@@ -1,7 +1,7 @@
 use Rattle.std.proofs.Common.{refl}
 use Rattle.std.specs.Prelude.{Some, None}
 use Rattle.proud_top.specs.declared.status.Status.TheVariants.{Done, Usage}
-use Rattle.proud_top.proofs.Saying.{says, says_stop, covered_gather, covered_place, due_gather, due_place, due_report}
+use Rattle.proud_top.proofs.Saying.{says, says_stop, covered_place, due_gather, due_place, due_report}
 use Rattle.proud_top.proofs.top.run.Goals as goal
 
 pub returns-in_default-clause-says : goal.returns-in_default-clause-says
@@ -24,7 +24,7 @@ returns-in-Ok-place-clause-says g c =
     (due_report c.args.words.now _ f f' _ c.in-Ok-place.placed.report.items c.in-Some.ensures.asked c.in-Ok.ensures c.in-Ok-place.ensures) (λ e. cc) (rw c.deref.ensures.value at c.put-in-Ok-place.ensures)
 
 pub refuse-requires-in-Err-place : goal.refuse-requires-in-Err-place
-refuse-requires-in-Err-place g c = covered_place _ c.in-Err-place.stop c.in-Err-place.ensures
+refuse-requires-in-Err-place g c = covered_place c.in-Some.request.levels _ c.in-Err-place.stop c.in-Err-place.ensures
 
 pub returns-clause-says : goal.returns-clause-says
 returns-clause-says g c =

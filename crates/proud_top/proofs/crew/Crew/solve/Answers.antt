@@ -1,23 +1,23 @@
-use Rattle.std.proofs.Common.{◌≡◌, ℕ, ◌<◌, List, length, subst}
-use Rattle.pad_reach.specs.Chain.{HasChain}
-use Rattle.relax_system.specs.declared.points.Point.{Point}
-use Rattle.relax_system.specs.System.{IsValid, joints_of}
-use Rattle.relax_system.specs.Extremal.{IsLeast, IsGreatest}
+use Rattle.std.proofs.Common.{ℕ, ◌≤◌, List, length, IfOk, Result, Ok, Err}
+use Rattle.std.proofs.lemmas.List.{length-map}
+use Rattle.book_text.specs.declared.memory.Memory.{Memory}
+use Rattle.area_cut.specs.declared.axis.Axis.{Axis}
+use Rattle.net_model.specs.Values.{NetworkValue}
+use Rattle.level_run.specs.declared.level.Level.{Level}
+use Rattle.level_run.specs.Levels.{IsLevels, HasChains, Encloses, solve_on, level_at, system_of}
+use Rattle.proud_top.specs.Solve.{AreSolved}
 use Rattle.proud_top.proofs.crew.Crew.solve.Goals as goal
 
-abbrev AreChained : List Point → Type 0
-AreChained system = (p : ℕ) → p < length system → HasChain (joints_of system) p
-
--- what the law says of one name of a system holds of the other
-by_law : {Solved : Type 0} (system own : List Point) (lo hi : List ℕ) → system ≡ own → (IsValid own → AreChained own → IsLeast own lo → IsGreatest own hi → Solved)
-    → IsValid system → AreChained system → IsLeast system lo → IsGreatest system hi → Solved
-by_law system own lo hi is law valid chains least greatest =
-    let Least : List Point → Type 0 = λ points. IsLeast points lo in
-    let Greatest : List Point → Type 0 = λ points. IsGreatest points hi in
-    law (subst IsValid is valid) (subst AreChained is chains) (subst Least is least) (subst Greatest is greatest)
+-- what the law says of the levels
+by_law : (network : NetworkValue) (count : ℕ) (result : Result (List Level) Memory)
+    → ((levels : List Level) (axis : Axis) (k : ℕ) → IsLevels network count levels → k ≤ count → Encloses (system_of axis network levels k) (solve_on axis (level_at levels k)))
+    → IfOk result (IsLevels network count) → IfOk result (AreSolved network count)
+by_law network count (Ok levels) law is = record { levels_are = is; enclosed = λ axis k within. law levels axis k is within }
+by_law network count (Err memory) law is = tt
 
 pub returns : goal.returns
 returns g c =
-    by_law _ _ _ _ c.in_ok-system.ensures.system
-    (λ valid chains least greatest. c.solves.ensures c.args.axis c.args.network.now (record { lo = c.in_ok-lo.lo.items; hi = c.in_ok-hi.hi.items }) valid chains least greatest)
-    c.points.ensures.valid c.in_ok-system.ensures.chains c.in_ok-lo.ensures c.in_ok-hi.ensures
+    let chains : HasChains c.args.network.now = λ p there. c.reach_leads.ensures _ c.args.reach.now p c.requires.reach (rw length-map there) in
+    by_law c.args.network.now c.args.count c.levels.result
+    (λ levels axis k is within. c.levels_enclose.ensures.encloses c.args.network.now c.args.count levels axis k c.points-points.ensures.valid chains is within)
+    c.levels.ensures

@@ -1,21 +1,17 @@
-use Rattle.std.proofs.Common.{◌≡◌, ◌∙◌, ℕ, List, Result, Ok, Err, refl, sym, subst}
-use Rattle.std.specs.Prelude.{Option, Some, None, option_map}
+use Rattle.std.proofs.Common.{◌≡◌, ℕ, List, Err, refl, sym, subst}
+use Rattle.std.specs.Prelude.{Option, option_map}
 use Rattle.book_files.specs.Entries.{WeightEntry}
 use Rattle.std.proofs.lemmas.Result.{err_from_is_err_and}
-use Rattle.book_files.specs.declared.fault.ReadError.{ReadError}
 use Rattle.book_files.specs.declared.fault.ReadError.TheVariants as read_error
-use Rattle.book_files.specs.Grammar.{Grammar, IsReading, Answers}
 use Rattle.book_files.specs.NodeRules.{nodes_grammar}
 use Rattle.book_files.specs.NetRules.{nets_grammar}
 use Rattle.book_files.specs.PlaceRules.{places_grammar}
 use Rattle.book_files.specs.RowRules.{rows_grammar}
 use Rattle.book_design.specs.Records.{Records}
-use Rattle.book_design.specs.Values.{DesignValue}
 use Rattle.book_design.specs.declared.fault.JoinError.{JoinError}
 use Rattle.book_design.specs.declared.fault.JoinError.TheVariants as join_error
 use Rattle.book_design.specs.Answers.{Answers as JoinAnswers}
-use Rattle.proud_top.specs.declared.stop.Stop.{Stop}
-use Rattle.proud_top.specs.Forms.Inputs.{Texts, IsSameRecords, AreWeights, AreRecords}
+use Rattle.proud_top.specs.Forms.Inputs.{Texts, AreWeights, AreRecords}
 use Rattle.proud_top.specs.Forms.Stops.{stop_of_join, Designs}
 use Rattle.proud_top.proofs.Naming.{reads_as}
 use Rattle.proud_top.proofs.inputs.Inputs.design.Goals as goal

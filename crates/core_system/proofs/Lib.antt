@@ -1,4 +1,0 @@
-mod Places
-mod Constants
-mod Chains
-mod Valid

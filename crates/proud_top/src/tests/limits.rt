@@ -1,0 +1,24 @@
+//! The limits, each as its number, since the definitions name the constants.
+
+#[test]
+fn limits_are_those_of_the_rules(rt: HostRuntime) {
+    assert_eq!(rt; book_text::MOST_MICRO, 1_000_000_000_000);
+    assert_eq!(rt; book_text::MOST_WHOLE, 1 << 40);
+    assert_eq!(rt; book_text::MOST_NUMBER_BYTES, 30);
+    assert_eq!(rt; book_files::MOST_BYTES, 268_435_456);
+    assert_eq!(rt; book_design::MOST_NODES, 1_048_576);
+    assert_eq!(rt; book_design::MOST_PINS, 16_777_216);
+    assert_eq!(rt; book_design::MOST_SUBROWS, 65_536);
+    assert_eq!(rt; book_design::MOST_SITES, 16_777_216);
+    assert_eq!(rt; book_design::MOST_NET_WEIGHT, 65_535);
+    assert_eq!(rt; book_design::ROWS_END, 1_000_000_000_000);
+    assert_eq!(rt; net_model::NET_WEIGHT, 840);
+    assert_eq!(rt; net_model::MOST_NET_NODES, 512);
+    assert_eq!(rt; net_model::MOST_TERMS, 16_777_216);
+    assert_eq!(rt; net_model::MOST_WEIGHT, 1 << 40);
+    assert_eq!(rt; pad_reach::MOST_POINTS, 2_097_152);
+    assert_eq!(rt; relax_system::MOST_POINTS, 2_097_152);
+    assert_eq!(rt; relax_system::MOST_COORDINATE, 2_000_000_000_000);
+    assert_eq!(rt; relax_system::MOST_WEIGHT, 1 << 40);
+    assert_eq!(rt; relax_crew::MOST_SEATS, 64);
+}
