@@ -2,7 +2,7 @@
 //!
 //! `cut [ROWS COLUMNS CUTS]`, by default 4 4 2, cuts a grid of cells so often, then once more, and projects it over the regions
 //! before that on both axes. Standard error gets the microseconds of the cuts, of the one cut more and of the projection;
-//! standard output what was made.
+//! standard output what was made, with coordinates from the core's lower ends.
 //!
 //! The cell in row r and column c is 1 to 4 wide, one wider than the cell before it, and 1 wide behind one of 4. It has a net
 //! to its neighbours to the right and above, the first and the last of a row one to a pad at their side of the core, which is 4
