@@ -42,6 +42,8 @@ pub struct Design<'a> {
     pub nodes: Vec<Node<'a>>,
     pub nets: Vec<Net>,
     pub core: Core,
+    /// The site spacing of the rows.
+    pub pitch: i64,
 }
 
 /// Reads the files that an aux file names.
@@ -152,7 +154,12 @@ pub fn join(texts: &Texts) -> Design<'_> {
         nodes.iter().all(|node| node.fixed || node.height <= height),
         "a tall cell"
     );
-    Design { nodes, nets, core }
+    Design {
+        nodes,
+        nets,
+        core,
+        pitch,
+    }
 }
 
 fn core_of(rows: &[RowBlock]) -> Option<Core> {

@@ -1,6 +1,6 @@
 //! The network of a design by hand in plain Rust: each net a clique, each point with its neighbours in flat arrays.
 
-use crate::design::{Design, Net, Node, Pin};
+use crate::design::{Design, Net, Pin};
 
 const WIDEST: usize = 512;
 const MOST_TERMS: u64 = 1 << 24;
@@ -13,17 +13,27 @@ pub enum Fault {
     Unanchored(usize),
 }
 
-/// The points of a design. Those next to point i stand at `starts[i]..starts[i + 1]` of `numbers` and `weights`, in order.
+/// A fixed pin of a point: its weight, and how far it stands from the core's lower ends on x and on y, clamped to the core.
+#[derive(Clone, Copy, Default)]
+pub struct FixedPin {
+    pub weight: u64,
+    pub place: [u64; 2],
+}
+
+/// The points of a design. Those next to point i stand at `starts[i]..starts[i + 1]` of `numbers` and `weights`, in order, and
+/// its fixed pins at `pin_starts[i]..pin_starts[i + 1]` of `pins`.
 #[derive(Default)]
 pub struct Network {
     /// The node that each point is.
     pub nodes: Vec<usize>,
+    /// How many sites each point takes.
+    pub areas: Vec<u64>,
     pub starts: Vec<usize>,
     pub numbers: Vec<u32>,
     pub weights: Vec<u64>,
+    pub pin_starts: Vec<usize>,
+    pub pins: Vec<FixedPin>,
     pub totals: Vec<u64>,
-    /// For x and for y: the sum of weight times distance from the core's lower end over the point's fixed pins.
-    pub anchored: [Vec<u128>; 2],
 }
 
 /// The first pin of each distinct node of a net, and the weight of each pair of them.
@@ -41,6 +51,7 @@ pub fn network(design: &Design) -> Result<Network, Fault> {
         if !node.fixed {
             points[i] = network.nodes.len() as u32;
             network.nodes.push(i);
+            network.areas.push(sites_of(node.width, design.pitch));
         }
     }
     let cliques = cliques_of(design)?;
@@ -58,6 +69,10 @@ pub fn network(design: &Design) -> Result<Network, Fault> {
         Some(point) => Err(Fault::Unanchored(point)),
         None => Ok(network),
     }
+}
+
+fn sites_of(width: i64, pitch: i64) -> u64 {
+    (width as u64).div_ceil(pitch as u64).max(1)
 }
 
 fn pairs(k: usize) -> u64 {
@@ -108,73 +123,79 @@ fn first_pins(net: &Net, number: usize, last_net: &mut [usize]) -> Vec<Pin> {
     pins
 }
 
-/// How far a fixed pin stands from the core's lower end on an axis, clamped to the core.
-fn distance(node: &Node, pin: &Pin, axis: usize, core: (i64, i64)) -> u64 {
-    let (corner, size, offset) = if axis == 0 {
-        (node.x, node.width, pin.dx)
-    } else {
-        (node.y, node.height, pin.dy)
-    };
-    ((corner + size / 2 + offset).min(core.1).max(core.0) - core.0) as u64
+/// The points of a clique.
+fn movable<'a>(clique: &'a Clique, points: &'a [u32]) -> impl Iterator<Item = usize> + 'a {
+    clique
+        .pins
+        .iter()
+        .map(|pin| points[pin.node as usize])
+        .filter(|point| *point != NO_POINT)
+        .map(|point| point as usize)
+}
+
+/// How far a fixed pin stands from the core's lower ends, clamped to the core.
+fn place_of(design: &Design, pin: &Pin) -> [u64; 2] {
+    let node = &design.nodes[pin.node as usize];
+    let place = [
+        node.x + node.width / 2 + pin.dx,
+        node.y + node.height / 2 + pin.dy,
+    ];
+    [0, 1].map(|axis| {
+        let (low, high) = design.core[axis];
+        (place[axis].min(high).max(low) - low) as u64
+    })
 }
 
 impl Network {
-    /// What the cliques give each point: its neighbours net by net, and what its fixed pins weigh.
+    /// What the cliques give each point: its neighbours net by net, and its fixed pins.
     fn join(&mut self, design: &Design, points: &[u32], cliques: &[Clique]) {
-        let count = self.nodes.len();
-        self.totals = vec![0; count];
-        self.anchored = [vec![0; count], vec![0; count]];
-        self.starts = vec![0; count + 1];
+        self.count(points, cliques);
+        let (mut free, mut free_pins) = (self.starts.clone(), self.pin_starts.clone());
         for clique in cliques {
-            let (movable, fixed): (Vec<&Pin>, Vec<&Pin>) = clique
+            let fixed: Vec<FixedPin> = clique
                 .pins
                 .iter()
-                .partition(|pin| points[pin.node as usize] != NO_POINT);
-            let pull: [u128; 2] = [0, 1].map(|axis| {
-                let far = |pin: &&Pin| {
-                    distance(
-                        &design.nodes[pin.node as usize],
-                        pin,
-                        axis,
-                        design.core[axis],
-                    )
-                };
-                fixed
-                    .iter()
-                    .map(|pin| u128::from(clique.share) * u128::from(far(pin)))
-                    .sum()
-            });
-            for pin in &movable {
-                let point = points[pin.node as usize] as usize;
-                self.starts[point + 1] += movable.len() - 1;
+                .filter(|pin| points[pin.node as usize] == NO_POINT)
+                .map(|pin| FixedPin {
+                    weight: clique.share,
+                    place: place_of(design, pin),
+                })
+                .collect();
+            for point in movable(clique, points) {
+                let pins = &mut free_pins[point];
+                self.pins[*pins..*pins + fixed.len()].copy_from_slice(&fixed);
+                *pins += fixed.len();
                 self.totals[point] += clique.share * fixed.len() as u64;
-                self.anchored[0][point] += pull[0];
-                self.anchored[1][point] += pull[1];
-            }
-        }
-        for point in 0..count {
-            self.starts[point + 1] += self.starts[point];
-        }
-        self.numbers = vec![0; self.starts[count]];
-        self.weights = vec![0; self.starts[count]];
-        let mut free = self.starts.clone();
-        for clique in cliques {
-            let movable = || {
-                clique
-                    .pins
-                    .iter()
-                    .map(|pin| points[pin.node as usize])
-                    .filter(|point| *point != NO_POINT)
-            };
-            for point in movable() {
-                for other in movable().filter(|other| *other != point) {
-                    let at = &mut free[point as usize];
-                    self.numbers[*at] = other;
+                for other in movable(clique, points).filter(|other| *other != point) {
+                    let at = &mut free[point];
+                    self.numbers[*at] = other as u32;
                     self.weights[*at] = clique.share;
                     *at += 1;
                 }
             }
         }
+    }
+
+    /// Room for what the cliques give each point.
+    fn count(&mut self, points: &[u32], cliques: &[Clique]) {
+        let count = self.nodes.len();
+        self.totals = vec![0; count];
+        self.starts = vec![0; count + 1];
+        self.pin_starts = vec![0; count + 1];
+        for clique in cliques {
+            let many = movable(clique, points).count();
+            for point in movable(clique, points) {
+                self.starts[point + 1] += many - 1;
+                self.pin_starts[point + 1] += clique.pins.len() - many;
+            }
+        }
+        for point in 0..count {
+            self.starts[point + 1] += self.starts[point];
+            self.pin_starts[point + 1] += self.pin_starts[point];
+        }
+        self.numbers = vec![0; self.starts[count]];
+        self.weights = vec![0; self.starts[count]];
+        self.pins = vec![FixedPin::default(); self.pin_starts[count]];
     }
 
     /// Puts the neighbours of each point in order, adds up those that stand more than once, and the total weights.

@@ -1,224 +1,108 @@
 //! The whole placer by hand in plain Rust, without its proofs, to measure the proved program against.
 //!
-//! `place_cells [--tell] [--seats N] DESIGN` reads the design beside the aux file, and prints for each movable node its name
-//! and its lower and upper coordinate on x and on y. Without `--seats` it solves by plain sweeps; with it, by a crew of
-//! that many threads on shared words. With `--tell`, standard error gets the sweeps, or the relaxations of each seat.
+//! `place_cells [--tell] [--levels N] [--seats N] DESIGN` reads the design beside the aux file, solves it, cuts its core N
+//! times (by default 4) and solves each level anew. It prints for each movable cell its name and its lower and upper
+//! coordinate on x and on y in the last level, and how far the two stand apart at most in any level. Without `--seats` it
+//! solves by plain sweeps; with it, by a crew of that many threads on shared words. With `--tell`, standard error gets the
+//! sweeps, or the relaxations of each seat.
 //!
 //! The points lie in flat arrays, sums are in `u64` where all of a design fit, and coordinates count from the core's lower
-//! end. `place_cells.sh` and `seats.sh` build it and run it beside the proved program.
+//! end. `place_cells.sh`, `seats.sh` and `levels.sh` build it and run it beside the proved program.
 
 mod design;
 mod network;
+mod projection;
 mod readers;
+mod regions;
+mod solving;
 
 use design::{Design, join, load};
 use network::{Fault, Network, network};
+use projection::{Sum, project};
+use regions::Regions;
+use solving::System;
 use std::fmt::Write as _;
 use std::io::Write as _;
-use std::ops::{Add, Div, Mul};
 use std::path::Path;
 use std::process::ExitCode;
-use std::sync::atomic::{AtomicU64, Ordering::SeqCst};
-use std::{env, io, thread};
+use std::{env, io};
 
-/// The numbers in which sums of weight times coordinate are made.
-trait Sum:
-    Copy + Sync + From<u64> + Add<Output = Self> + Mul<Output = Self> + Div<Output = Self>
-{
-    fn low(self) -> u64;
-}
-
-impl Sum for u64 {
-    fn low(self) -> u64 {
-        self
-    }
-}
-
-impl Sum for u128 {
-    fn low(self) -> u64 {
-        self as u64
-    }
-}
-
-/// The equations of a network on one axis, with coordinates from 0 to `top`.
-struct System<'a, S> {
-    network: &'a Network,
-    anchored: Vec<S>,
-    top: u64,
-}
-
-/// Whether `b` stands past `a` on the way up, or down.
-fn is_past<const UP: bool>(a: u64, b: u64) -> bool {
-    if UP { a < b } else { b < a }
-}
-
-impl<S: Sum> System<'_, S> {
-    fn start<const UP: bool>(&self) -> u64 {
-        if UP { 0 } else { self.top }
-    }
-
-    /// The weighted mean of a point, rounded down on the way up, and up on the way down.
-    ///
-    /// # Safety
-    /// `i` is a point, and `v` has one entry per point.
-    #[inline(always)]
-    unsafe fn mean<const UP: bool>(&self, i: usize, v: &[u64]) -> u64 {
-        let net = self.network;
-        // SAFETY: the arrays have one entry per point, the starts ascend, and each neighbour is a point.
-        unsafe {
-            let mut sum = *self.anchored.get_unchecked(i);
-            for k in *net.starts.get_unchecked(i)..*net.starts.get_unchecked(i + 1) {
-                let entry = *v.get_unchecked(*net.numbers.get_unchecked(k) as usize);
-                sum = sum + S::from(*net.weights.get_unchecked(k)) * S::from(entry);
-            }
-            let total = *net.totals.get_unchecked(i);
-            let sum = if UP { sum } else { sum + S::from(total - 1) };
-            (sum / S::from(total)).low()
-        }
-    }
-
-    /// Plain sweeps from one end of the boxes until one changes nothing: the vector, and how many they were.
-    fn solve<const UP: bool>(&self) -> (Vec<u64>, u64) {
-        let mut v = vec![self.start::<UP>(); self.anchored.len()];
-        let mut sweeps = 1;
-        while self.sweep::<UP>(&mut v) {
-            sweeps += 1;
-        }
-        (v, sweeps)
-    }
-
-    #[inline(never)]
-    fn sweep<const UP: bool>(&self, v: &mut [u64]) -> bool {
-        let mut moved = false;
-        for i in 0..v.len() {
-            // SAFETY: the vector has one entry per point.
-            unsafe {
-                let mean = self.mean::<UP>(i, v);
-                let entry = v.get_unchecked_mut(i);
-                if is_past::<UP>(*entry, mean) {
-                    *entry = mean;
-                    moved = true;
-                }
-            }
-        }
-        moved
-    }
-
-    /// The same vector by a crew of seats on one shared word per point, and the relaxations of each seat.
-    fn solve_by_crew<const UP: bool>(&self, seats: usize) -> (Vec<u64>, Vec<u64>) {
-        const APART: usize = 16;
-        let (points, start) = (self.anchored.len(), self.start::<UP>());
-        let words: Vec<AtomicU64> = (0..points).map(|_| AtomicU64::new(start)).collect();
-        // Each seat's view has a margin on both sides, so that no two share a cache line or a pair of them.
-        let mut views = vec![vec![start; points + 2 * APART]; seats];
-        let counts = thread::scope(|scope| {
-            let handles: Vec<_> = views
-                .iter_mut()
-                .enumerate()
-                .map(|(k, view)| {
-                    let (words, seen) = (&words[..], &mut view[APART..APART + points]);
-                    let range = (k * points / seats, (k + 1) * points / seats);
-                    scope.spawn(move || self.take_turn::<UP>(words, seen, range))
-                })
-                .collect();
-            handles
-                .into_iter()
-                .map(|handle| handle.join().expect("a seat"))
-                .collect()
-        });
-        (views[0][APART..APART + points].to_vec(), counts)
-    }
-
-    /// What one seat does: it relaxes its range once, settles its range, and settles all points.
-    fn take_turn<const UP: bool>(
-        &self,
-        words: &[AtomicU64],
-        seen: &mut [u64],
-        range: (usize, usize),
-    ) -> u64 {
-        let mut relaxations = 0;
-        self.relax::<UP>(words, seen, range, &mut relaxations);
-        while self.relax::<UP>(words, seen, range, &mut relaxations) {}
-        while self.relax::<UP>(words, seen, (0, words.len()), &mut relaxations) {}
-        relaxations
-    }
-
-    /// Relaxes each point of a range once. Whether an entry of what the seat has seen moved.
-    ///
-    /// A relaxation loads the words of the neighbours into the seat's view, and then renews the point's word by the mean of
-    /// what was seen: a load first, and a fetch only where the mean stands past the word.
-    #[inline(never)]
-    fn relax<const UP: bool>(
-        &self,
-        words: &[AtomicU64],
-        seen: &mut [u64],
-        (from, to): (usize, usize),
-        relaxations: &mut u64,
-    ) -> bool {
-        let net = self.network;
-        let mut moved = false;
-        for i in from..to {
-            // SAFETY: words and view have one entry per point, the starts ascend, and each neighbour is a point.
-            unsafe {
-                for k in *net.starts.get_unchecked(i)..*net.starts.get_unchecked(i + 1) {
-                    let other = *net.numbers.get_unchecked(k) as usize;
-                    let word = words.get_unchecked(other).load(SeqCst);
-                    moved |= word != *seen.get_unchecked(other);
-                    *seen.get_unchecked_mut(other) = word;
-                }
-                let mean = self.mean::<UP>(i, seen);
-                let word = words.get_unchecked(i);
-                let mut new = word.load(SeqCst);
-                if is_past::<UP>(new, mean) {
-                    new = if UP {
-                        word.fetch_max(mean, SeqCst).max(mean)
-                    } else {
-                        word.fetch_min(mean, SeqCst).min(mean)
-                    };
-                }
-                moved |= new != *seen.get_unchecked(i);
-                *seen.get_unchecked_mut(i) = new;
-            }
-        }
-        *relaxations += (to - from) as u64;
-        moved
-    }
-}
-
-/// How a run goes: with how many seats, where by a crew, and whether it tells its work.
+/// How a run goes: how often the core is cut, with how many seats, where by a crew, and whether it tells its work.
 struct Way {
+    levels: u32,
     seats: Option<usize>,
     tell: bool,
 }
 
-/// The lower and the upper vector of a network on an axis.
-fn solve_axis(network: &Network, design: &Design, axis: usize, way: &Way) -> [Vec<u64>; 2] {
-    let top = (design.core[axis].1 - design.core[axis].0) as u64;
+/// The lower and the upper vector of an axis.
+type Solved = [Vec<u64>; 2];
+
+/// The last level's vectors on x and on y, and how far two entries stand apart at most in any level.
+struct Placed {
+    last: [Solved; 2],
+    gap: u64,
+}
+
+fn place(network: &Network, design: &Design, way: &Way) -> Placed {
+    let tops = [0, 1].map(|axis| (design.core[axis].1 - design.core[axis].0) as u64);
     let heaviest = network.totals.iter().copied().max().unwrap_or(0);
-    let anchored = &network.anchored[axis];
-    if u128::from(heaviest) * (u128::from(top) + 1) <= u128::from(u64::MAX) {
-        let anchored: Vec<u64> = anchored.iter().map(|sum| *sum as u64).collect();
-        solve(network, anchored, top, axis, way)
+    let farthest = tops[0].max(tops[1]);
+    if u128::from(heaviest) * (u128::from(farthest) + 1) <= u128::from(u64::MAX) {
+        solve_levels::<u64>(network, tops, way)
     } else {
-        solve(network, anchored.clone(), top, axis, way)
+        solve_levels::<u128>(network, tops, way)
     }
 }
 
-fn solve<S: Sum>(
-    network: &Network,
-    anchored: Vec<S>,
-    top: u64,
-    axis: usize,
-    way: &Way,
-) -> [Vec<u64>; 2] {
-    let system = System {
-        network,
-        anchored,
-        top,
+fn solve_levels<S: Sum>(network: &Network, tops: [u64; 2], way: &Way) -> Placed {
+    let points = network.nodes.len();
+    let mut regions = Regions::whole(points, tops);
+    let mut last = solve_level::<S>(network, &regions, &[vec![0; points], vec![0; points]], way);
+    let mut gap = gap_of(&last);
+    for _ in 0..way.levels {
+        let mids = [0, 1].map(|axis| halfway(&last[axis]));
+        regions = regions.cut(&network.areas, &mids);
+        last = solve_level::<S>(network, &regions, &mids, way);
+        gap = gap.max(gap_of(&last));
+    }
+    Placed { last, gap }
+}
+
+fn halfway([lower, upper]: &Solved) -> Vec<u64> {
+    let both = lower.iter().zip(upper);
+    both.map(|(lower, upper)| (lower + upper) / 2).collect()
+}
+
+fn gap_of(solved: &[Solved; 2]) -> u64 {
+    let apart = |[lower, upper]: &Solved| {
+        let both = lower.iter().zip(upper);
+        both.map(|(lower, upper)| upper - lower).max().unwrap_or(0)
     };
+    apart(&solved[0]).max(apart(&solved[1]))
+}
+
+fn solve_level<S: Sum>(
+    network: &Network,
+    regions: &Regions,
+    mids: &[Vec<u64>; 2],
+    way: &Way,
+) -> [Solved; 2] {
+    let projection = project::<S>(network, regions, mids);
+    [0, 1].map(|axis| {
+        let system = System {
+            totals: &network.totals,
+            projection: &projection,
+            axis: &projection.axes[axis],
+        };
+        let name = format!("{} regions, {}", regions.list.len(), ["x", "y"][axis]);
+        solve(&system, &name, way)
+    })
+}
+
+fn solve<S: Sum>(system: &System<S>, name: &str, way: &Way) -> Solved {
     let tell = |end: &str, work: String| {
         if way.tell {
-            eprintln!("{} {end}: {work}", ["x", "y"][axis]);
+            eprintln!("{name} {end}: {work}");
         }
     };
     match way.seats {
@@ -239,12 +123,12 @@ fn solve<S: Sum>(
     }
 }
 
-fn report_of(design: &Design, network: &Network, solved: [[Vec<u64>; 2]; 2]) -> Vec<u8> {
+fn report_of(design: &Design, network: &Network, placed: &Placed, levels: u32) -> Vec<u8> {
     let mut report = Vec::new();
     let mut numbers = String::new();
     for (point, node) in network.nodes.iter().enumerate() {
         numbers.clear();
-        for (vectors, (low, _)) in solved.iter().zip(design.core) {
+        for (vectors, (low, _)) in placed.last.iter().zip(design.core) {
             for vector in vectors {
                 write!(numbers, " {}", low + vector[point] as i64).expect("room");
             }
@@ -253,6 +137,7 @@ fn report_of(design: &Design, network: &Network, solved: [[Vec<u64>; 2]; 2]) -> 
         report.extend_from_slice(numbers.as_bytes());
         report.push(b'\n');
     }
+    writeln!(report, "levels {levels} gap {}", placed.gap).expect("room");
     report
 }
 
@@ -272,6 +157,7 @@ fn refusal_of(design: &Design, fault: Fault) -> String {
 /// The words of the command line: how to solve, and the design.
 fn words() -> Option<(Way, String)> {
     let mut way = Way {
+        levels: 4,
         seats: None,
         tell: false,
     };
@@ -279,10 +165,12 @@ fn words() -> Option<(Way, String)> {
     loop {
         match words.next()?.as_str() {
             "--tell" => way.tell = true,
+            "--levels" => {
+                way.levels = words.next()?.parse().ok().filter(|levels| *levels <= 12)?;
+            }
             "--seats" => {
-                let seats = words.next()?.parse().ok()?;
-                way.seats = (1..=64).contains(&seats).then_some(seats);
-                way.seats?;
+                let seats = words.next()?.parse().ok();
+                way.seats = Some(seats.filter(|seats| (1..=64).contains(seats))?);
             }
             design => return words.next().is_none().then(|| (way, design.to_string())),
         }
@@ -291,7 +179,7 @@ fn words() -> Option<(Way, String)> {
 
 fn main() -> ExitCode {
     let Some((way, aux)) = words() else {
-        println!("usage: place_cells [--tell] [--seats N] DESIGN");
+        println!("usage: place_cells [--tell] [--levels N] [--seats N] DESIGN");
         return ExitCode::from(1);
     };
     let texts = load(Path::new(&aux));
@@ -303,8 +191,8 @@ fn main() -> ExitCode {
             return ExitCode::from(2);
         }
     };
-    let solved = [0, 1].map(|axis| solve_axis(&network, &design, axis, &way));
-    let report = report_of(&design, &network, solved);
+    let placed = place(&network, &design, &way);
+    let report = report_of(&design, &network, &placed, way.levels);
     io::stdout().write_all(&report).expect("standard output");
     ExitCode::SUCCESS
 }

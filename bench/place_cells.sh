@@ -1,20 +1,19 @@
 #!/usr/bin/env bash
-# Places designs three times with the proved program on one seat and three times with plain sweeps by hand, in turn, compares
-# what they print byte for byte, and prints the medians in milliseconds, their ratios and the sweeps. The processor time is
-# disturbed less by other work on the machine. Usage: bench/place_cells.sh [AUX ..], by default a grid of 100 by 100.
+# Places designs without a cut three times with the proved program on one seat and three times with plain sweeps by hand, in
+# turn, compares what they print byte for byte, and prints the medians in milliseconds, their ratios and the sweeps. The
+# processor time is disturbed less by other work on the machine. Usage: bench/place_cells.sh [AUX ..], by default a grid of 100
+# by 100.
 . "$(dirname "$0")/runs.sh"
 if [ $# = 0 ]; then
     mkdir "$work/100_by_100"
     python3 "$bench/write_grid.py" "$work/100_by_100" 100 100
     set -- "$work/100_by_100/grid.aux"
 fi
-one_seat=()
-if "$program" | grep -q -e --seats; then one_seat=(--seats 1); fi
 for aux in "$@"; do
     rm -f "$work"/*.seconds
     for _ in 1 2 3; do
-        run proved "$program" "${one_seat[@]}" "$aux"
-        run by_hand "$by_hand" --tell "$aux"
+        run proved "$program" --levels 0 --seats 1 "$aux"
+        run by_hand "$by_hand" --tell --levels 0 "$aux"
         cmp "$work/proved.told" "$work/by_hand.told"
     done
     a=$(median proved 1) b=$(median by_hand 1)

@@ -1,0 +1,192 @@
+#!/usr/bin/env python3
+"""What the program prints for a design, found once more: small and slow, in exact integers, straight from the rules.
+
+levels.py [--levels N] AUX, by default 4 levels. It shares nothing with place_cells.rs: it sums a weight for each pair of
+points, and renews all entries of a vector at once until none moves. It tests no design: a fault in one ends in some error of
+Python. compare_levels.py runs other programs beside it.
+"""
+import argparse
+import os
+from decimal import Decimal
+
+COUNTS = "numnodes", "numterminals", "numnets", "numpins", "numrows"
+
+
+def micro(word):
+    return int(Decimal(word) * 1000000)
+
+
+def lines_of(folder, name):
+    """The words of each line behind the header but for the counts, colons left out."""
+    with open(os.path.join(folder, name), errors="surrogateescape") as file:
+        lines = [[word.strip(":") for word in line.split() if word.strip(":")] for line in file]
+    lines = [line for line in lines if line and not line[0].startswith("#")][1:]
+    return [line for line in lines if line[0].lower() not in COUNTS]
+
+
+class Design:
+    def __init__(self, aux):
+        folder = os.path.dirname(aux)
+        with open(aux) as file:
+            text = " ".join(line for line in file if not line.lstrip().startswith("#"))
+        files = {name.rsplit(".", 1)[1].lower(): name for name in text.split(":", 1)[1].split()}
+        self.read_nodes(lines_of(folder, files["nodes"]), lines_of(folder, files["pl"]))
+        weights = lines_of(folder, files["wts"]) if "wts" in files else []
+        self.read_nets(lines_of(folder, files["nets"]), {line[0]: int(Decimal(line[1])) for line in weights})
+        self.read_rows(lines_of(folder, files["scl"]))
+
+    def read_nodes(self, nodes, places):
+        place = {line[0]: line[1:] for line in places}
+        self.size, self.corner, self.cells = {}, {}, []
+        for name, width, height, *mark in nodes:
+            at = place.get(name, ["0", "0"])
+            self.size[name] = micro(width), micro(height)
+            self.corner[name] = micro(at[0]), micro(at[1])
+            if not mark and at[-1].lower() != "/fixed":
+                self.cells.append(name)
+
+    def read_nets(self, lines, weights):
+        """A net is its weight and, for each of its nodes, the offset of the node's first pin."""
+        self.nets = []
+        for line in lines:
+            if line[0].lower() == "netdegree":
+                pins = {}
+                self.nets.append((weights.get(line[2], 1) if len(line) > 2 else 1, pins))
+            else:
+                offset = (micro(line[2]), micro(line[3])) if len(line) > 2 else (0, 0)
+                pins.setdefault(line[0], offset)
+
+    def read_rows(self, lines):
+        subrows = []
+        for line in lines:
+            key = line[0].lower()
+            if key == "corerow":
+                row = {}
+            elif key == "subroworigin":
+                subrows.append((row, micro(line[1]), int(line[3])))
+            elif len(line) == 2:
+                row[key] = line[1]
+        pitch = {id(row): micro(row.get("sitespacing", row.get("sitewidth"))) for row, _, _ in subrows}
+        self.pitch = next(iter(pitch.values()))
+        subrows = [subrow for subrow in subrows if subrow[2] > 0]
+        ys = [micro(row["coordinate"]) for row, _, _ in subrows]
+        tops = [y + micro(row["height"]) for y, (row, _, _) in zip(ys, subrows)]
+        rights = [x + sites * pitch[id(row)] for row, x, sites in subrows]
+        self.core = (min(x for _, x, _ in subrows), max(rights)), (min(ys), max(tops))
+
+    def centre(self, name, axis):
+        return self.corner[name][axis] + self.size[name][axis] // 2
+
+
+class Network:
+    def __init__(self, design):
+        self.number = {name: number for number, name in enumerate(design.cells)}
+        self.core = design.core
+        self.areas = [max(1, -(-design.size[name][0] // design.pitch)) for name in design.cells]
+        self.near = [{} for _ in design.cells]
+        self.pins = [[] for _ in design.cells]
+        for weight, pins in design.nets:
+            share = 840 * weight // (len(pins) - 1) if len(pins) > 1 else 0
+            for one in pins:
+                for other in pins:
+                    if share > 0 and one != other and one in self.number:
+                        self.join(design, self.number[one], other, share, pins[other])
+
+    def join(self, design, point, other, share, offset):
+        if other in self.number:
+            near, q = self.near[point], self.number[other]
+            near[q] = near.get(q, 0) + share
+        else:
+            self.pins[point].append((share, [design.centre(other, axis) + offset[axis] for axis in (0, 1)]))
+
+
+def clamp(value, ends):
+    return max(ends[0], min(value, ends[1]))
+
+
+class Region:
+    def __init__(self, ends, points):
+        self.ends, self.points = ends, points
+
+
+def systems(network, axis, regions, mids):
+    """For each point: its box, its neighbours, its total weight, and its sum of weight times constant."""
+    home = {point: region.ends[axis] for region in regions for point in region.points}
+    group = {point: number for number, region in enumerate(regions) for point in region.points}
+    for point in range(len(network.near)):
+        near, total, anchored = [], 0, 0
+        for other, weight in network.near[point].items():
+            total += weight
+            if group[other] == group[point]:
+                near.append((other, weight))
+            else:
+                anchored += weight * clamp(clamp(mids[axis][other], home[other]), home[point])
+        for weight, place in network.pins[point]:
+            total += weight
+            anchored += weight * clamp(place[axis], home[point])
+        yield home[point], near, total, anchored
+
+
+def least(system):
+    """From the bottoms of the boxes up, all at once, until every rounded-down mean is at most its entry."""
+    v = [box[0] for box, _, _, _ in system]
+    while True:
+        means = [(sum(w * v[j] for j, w in near) + b) // total for _, near, total, b in system]
+        if all(mean <= entry for mean, entry in zip(means, v)):
+            return v
+        v = [max(pair) for pair in zip(means, v)]
+
+
+def greatest(system):
+    """The same turned upside down: from the tops, by the means rounded up."""
+    turned = [((-box[1], -box[0]), near, total, -b) for box, near, total, b in system]
+    return [-entry for entry in least(turned)]
+
+
+def cut(network, region, mids):
+    sides = [high - low for low, high in region.ends]
+    if len(region.points) < 2 or max(sides) == 0:
+        return [region]
+    axis = 0 if sides[0] >= sides[1] else 1
+    order = sorted(region.points, key=lambda point: (mids[axis][point], point))
+    area = lambda points: sum(network.areas[point] for point in points)
+    count = min(n for n in range(1, len(order) + 1) if 2 * area(order[:n]) >= area(order))
+    if count == len(order):
+        count -= 1
+    low, high = region.ends[axis]
+    whole = area(order)
+    line = low + (sides[axis] * area(order[:count]) // whole if whole > 0 else sides[axis] // 2)
+    part = lambda ends, points: Region([ends if k == axis else region.ends[k] for k in (0, 1)], sorted(points))
+    return [part((low, line), order[:count]), part((line, high), order[count:])]
+
+
+def levels(network, number):
+    """For each level, and for each axis, the two vectors."""
+    regions = [Region(list(network.core), list(range(len(network.near))))]
+    mids = [[None] * len(network.near)] * 2
+    for level in range(number + 1):
+        if level > 0:
+            regions = [part for region in regions for part in cut(network, region, mids)]
+        axes = [list(systems(network, axis, regions, mids)) for axis in (0, 1)]
+        solved = [(least(system), greatest(system)) for system in axes]
+        mids = [[(lower + upper) // 2 for lower, upper in zip(*pair)] for pair in solved]
+        yield solved
+
+
+def report(aux, number):
+    """The bytes that are printed for a design with so many levels."""
+    design = Design(aux)
+    found = list(levels(Network(design), number))
+    vectors = [vector for pair in found[-1] for vector in pair]
+    lines = [f"{name} {' '.join(map(str, numbers))}" for name, *numbers in zip(design.cells, *vectors)]
+    spreads = [upper - lower for solved in found for pair in solved for lower, upper in zip(*pair)]
+    lines.append(f"levels {number} gap {max(spreads, default=0)}")
+    return "".join(line + "\n" for line in lines).encode(errors="surrogateescape")
+
+
+if __name__ == "__main__":
+    parser = argparse.ArgumentParser()
+    parser.add_argument("--levels", type=int, default=4)
+    parser.add_argument("aux")
+    options = parser.parse_args()
+    os.write(1, report(options.aux, options.levels))

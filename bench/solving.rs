@@ -1,0 +1,157 @@
+//! The least and the greatest vector by hand in plain Rust: by plain sweeps, and by a crew of seats on shared words.
+
+use crate::projection::{Axis, Projection, Sum};
+use std::sync::atomic::{AtomicU64, Ordering::SeqCst};
+use std::thread;
+
+/// The equations of a level on one axis.
+pub struct System<'a, S> {
+    pub totals: &'a [u64],
+    pub projection: &'a Projection<S>,
+    pub axis: &'a Axis<S>,
+}
+
+/// Whether `b` stands past `a` on the way up, or down.
+fn is_past<const UP: bool>(a: u64, b: u64) -> bool {
+    if UP { a < b } else { b < a }
+}
+
+impl<S: Sum> System<'_, S> {
+    fn start<const UP: bool>(&self) -> &[u64] {
+        if UP {
+            &self.axis.lows
+        } else {
+            &self.axis.highs
+        }
+    }
+
+    /// The weighted mean of a point, rounded down on the way up, and up on the way down.
+    ///
+    /// # Safety
+    /// `i` is a point, and `v` has one entry per point.
+    #[inline(always)]
+    unsafe fn mean<const UP: bool>(&self, i: usize, v: &[u64]) -> u64 {
+        let near = self.projection;
+        // SAFETY: the arrays have one entry per point, the starts ascend, and each neighbour is a point.
+        unsafe {
+            let mut sum = *self.axis.anchored.get_unchecked(i);
+            for k in *near.starts.get_unchecked(i)..*near.starts.get_unchecked(i + 1) {
+                let entry = *v.get_unchecked(*near.numbers.get_unchecked(k) as usize);
+                sum = sum + S::from(*near.weights.get_unchecked(k)) * S::from(entry);
+            }
+            let total = *self.totals.get_unchecked(i);
+            let sum = if UP { sum } else { sum + S::from(total - 1) };
+            (sum / S::from(total)).low()
+        }
+    }
+
+    /// Plain sweeps from one end of the boxes until one changes nothing: the vector, and how many they were.
+    pub fn solve<const UP: bool>(&self) -> (Vec<u64>, u64) {
+        let mut v = self.start::<UP>().to_vec();
+        let mut sweeps = 1;
+        while self.sweep::<UP>(&mut v) {
+            sweeps += 1;
+        }
+        (v, sweeps)
+    }
+
+    #[inline(never)]
+    fn sweep<const UP: bool>(&self, v: &mut [u64]) -> bool {
+        let mut moved = false;
+        for i in 0..v.len() {
+            // SAFETY: the vector has one entry per point.
+            unsafe {
+                let mean = self.mean::<UP>(i, v);
+                let entry = v.get_unchecked_mut(i);
+                if is_past::<UP>(*entry, mean) {
+                    *entry = mean;
+                    moved = true;
+                }
+            }
+        }
+        moved
+    }
+
+    /// The same vector by a crew of seats on one shared word per point, and the relaxations of each seat.
+    pub fn solve_by_crew<const UP: bool>(&self, seats: usize) -> (Vec<u64>, Vec<u64>) {
+        const APART: usize = 16;
+        let start = self.start::<UP>();
+        let points = start.len();
+        let words: Vec<AtomicU64> = start.iter().map(|end| AtomicU64::new(*end)).collect();
+        // Each seat's view has a margin on both sides, so that no two share a cache line or a pair of them.
+        let mut view = vec![0; points + 2 * APART];
+        view[APART..APART + points].copy_from_slice(start);
+        let mut views = vec![view; seats];
+        let counts = thread::scope(|scope| {
+            let handles: Vec<_> = views
+                .iter_mut()
+                .enumerate()
+                .map(|(k, view)| {
+                    let (words, seen) = (&words[..], &mut view[APART..APART + points]);
+                    let range = (k * points / seats, (k + 1) * points / seats);
+                    scope.spawn(move || self.take_turn::<UP>(words, seen, range))
+                })
+                .collect();
+            handles
+                .into_iter()
+                .map(|handle| handle.join().expect("a seat"))
+                .collect()
+        });
+        (views[0][APART..APART + points].to_vec(), counts)
+    }
+
+    /// What one seat does: it relaxes its range once, settles its range, and settles all points.
+    fn take_turn<const UP: bool>(
+        &self,
+        words: &[AtomicU64],
+        seen: &mut [u64],
+        range: (usize, usize),
+    ) -> u64 {
+        let mut relaxations = 0;
+        self.relax::<UP>(words, seen, range, &mut relaxations);
+        while self.relax::<UP>(words, seen, range, &mut relaxations) {}
+        while self.relax::<UP>(words, seen, (0, words.len()), &mut relaxations) {}
+        relaxations
+    }
+
+    /// Relaxes each point of a range once. Whether an entry of what the seat has seen moved.
+    ///
+    /// A relaxation loads the words of the neighbours into the seat's view, and then renews the point's word by the mean of
+    /// what was seen: a load first, and a fetch only where the mean stands past the word.
+    #[inline(never)]
+    fn relax<const UP: bool>(
+        &self,
+        words: &[AtomicU64],
+        seen: &mut [u64],
+        (from, to): (usize, usize),
+        relaxations: &mut u64,
+    ) -> bool {
+        let near = self.projection;
+        let mut moved = false;
+        for i in from..to {
+            // SAFETY: words and view have one entry per point, the starts ascend, and each neighbour is a point.
+            unsafe {
+                for k in *near.starts.get_unchecked(i)..*near.starts.get_unchecked(i + 1) {
+                    let other = *near.numbers.get_unchecked(k) as usize;
+                    let word = words.get_unchecked(other).load(SeqCst);
+                    moved |= word != *seen.get_unchecked(other);
+                    *seen.get_unchecked_mut(other) = word;
+                }
+                let mean = self.mean::<UP>(i, seen);
+                let word = words.get_unchecked(i);
+                let mut new = word.load(SeqCst);
+                if is_past::<UP>(new, mean) {
+                    new = if UP {
+                        word.fetch_max(mean, SeqCst).max(mean)
+                    } else {
+                        word.fetch_min(mean, SeqCst).min(mean)
+                    };
+                }
+                moved |= new != *seen.get_unchecked(i);
+                *seen.get_unchecked_mut(i) = new;
+            }
+        }
+        *relaxations += (to - from) as u64;
+        moved
+    }
+}
