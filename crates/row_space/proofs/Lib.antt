@@ -1,0 +1,4 @@
+mod Running
+mod Spans
+mod Meeting
+mod Clearing

@@ -1,0 +1,5 @@
+pub mod Values
+pub mod Rectangles
+pub mod Runs
+pub mod Clear
+pub mod Ends

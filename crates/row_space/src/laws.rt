@@ -1,0 +1,11 @@
+//! A law of segments.
+
+ghost use Rattle.book_design.specs.Values.{DesignValue};
+ghost use Rattle.book_design.specs.WellFormed.{IsDesign};
+ghost use Rattle.row_space.specs.Clear.{AreClear};
+
+/// A law: no fixed node shares area with a segment of a design, and no two segments do.
+pub fn clear_segments()
+    ensures { (design : DesignValue) → IsDesign design → AreClear design }
+{
+}
