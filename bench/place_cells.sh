@@ -13,7 +13,7 @@ for aux in "$@"; do
     rm -f "$work"/*.seconds
     for _ in 1 2 3; do
         run proved "$program" --levels 0 --seats 1 "$aux"
-        run by_hand "$by_hand" --tell --levels 0 "$aux"
+        run by_hand "$by_hand" --tell --lines --levels 0 "$aux"
         cmp "$work/proved.told" "$work/by_hand.told"
     done
     a=$(median proved 1) b=$(median by_hand 1)

@@ -13,7 +13,7 @@ fi
 for _ in 1 2 3; do
     for seats in $counts; do
         run "proved.$seats" "$program" --levels 0 --seats "$seats" "$work/grid.aux"
-        run "by_hand.$seats" "$by_hand" --tell --levels 0 --seats "$seats" "$work/grid.aux"
+        run "by_hand.$seats" "$by_hand" --tell --lines --levels 0 --seats "$seats" "$work/grid.aux"
         cmp "$work/proved.$seats.told" "$work/by_hand.$seats.told"
         cmp "$work/proved.$seats.told" "$work/proved.1.told"
     done
