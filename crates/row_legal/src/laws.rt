@@ -7,10 +7,12 @@ ghost use Rattle.row_space.specs.Values.{SegmentsValue};
 ghost use Rattle.row_space.specs.Runs.{segments_of};
 ghost use Rattle.row_legal.specs.declared.parts.Place.{Place};
 ghost use Rattle.row_legal.specs.Cells.{CellsValue};
+ghost use Rattle.row_legal.specs.Ranges.{AreGoodCells};
 ghost use Rattle.row_legal.specs.Places.{IsLegalised};
 ghost use Rattle.row_legal.specs.Apart.{AreApart};
 ghost use Rattle.row_legal.specs.Legal.{IsLegal};
 ghost use Rattle.row_legal.specs.Spots.{AreSitesOf, spots_of};
+ghost use Rattle.row_legal.specs.OneAnswer.{HasAnswer, HasOneAnswerAtMost};
 
 use row_space::clear_segments;
 
@@ -26,3 +28,9 @@ pub fn places_legal()
 {
     clear_segments();
 }
+
+/// The greedy rule has one answer at most, places or a cell without room, and it has one where each cell takes a site.
+pub fn one_answer()
+    ensures one { (rows : SegmentsValue) (cells : CellsValue) → HasOneAnswerAtMost rows cells }
+    ensures there { (rows : SegmentsValue) (cells : CellsValue) → AreGoodCells cells → HasAnswer rows cells }
+{}
