@@ -1,11 +1,12 @@
 -- The greedy rule has one list of picks, or one cell without room.
-use Rattle.std.proofs.Common.{◌≡◌, ◌⊎◌, ℕ, zero, suc, ◌+◌, ◌-◌, ◌<◌, ◌≤◌, List, [], ◌∷◌, ◌++◌, length, get_or, map, take, refl, sym, ap, ◌∙◌, subst, inl, inr, arith}
+use Rattle.std.proofs.Common.{◌≡◌, ℕ, zero, suc, ◌+◌, ◌<◌, ◌≤◌, List, [], ◌∷◌, ◌++◌, length, take, refl, sym, ap, ◌∙◌, subst, inl, inr, arith}
 use Rattle.std.specs.Prelude.{slice_index}
 use Rattle.std.proofs.lemmas.Bool.{cases_lt, cases_order}
 use Rattle.std.proofs.lemmas.List.{get_or-map, length-map, length-append, take_all, take_more_same, get_or_append_left, get_or_at}
-use Rattle.row_space.specs.Values.{SegmentsValue, segment_at}
-use Rattle.row_legal.specs.Cells.{CellsValue, count, sites_at}
+use Rattle.row_space.specs.Values.{SegmentsValue}
+use Rattle.row_legal.specs.Cells.{CellsValue, sites_at}
 use Rattle.row_legal.specs.Greedy.{Pick, cells_in, room_left, HasRoom, cost, IsChoice, pick_at, AreChoices, IsGreedy, IsLargest, IsStuck}
+use Rattle.row_legal.proofs.Locating.{cell_of, pick_by}
 use Rattle.row_legal.proofs.Taken.{one_taking}
 
 two_ways : (m n : ℕ) → m ≤ n → n ≤ m → m ≡ n
@@ -22,9 +23,6 @@ one_choice rows cells picks c s t a b =
     let high : cost rows cells c t ≤ cost rows cells c s = b.least s a.room in
     two_ways s t (a.first t b.room (two_ways (cost rows cells c t) (cost rows cells c s) high low)) (b.first s a.room (two_ways (cost rows cells c s) (cost rows cells c t) low high))
 
-abbrev pick_by : ℕ → ℕ → Pick
-pick_by cell segment = record { cell = cell; segment = segment }
-
 same_pick : (p q : Pick) → p.cell ≡ q.cell → p.segment ≡ q.segment → p ≡ q
 same_pick p q cell segment = ap (λ (c : ℕ). pick_by c p.segment) cell ∙ ap (pick_by q.cell) segment
 
@@ -37,12 +35,12 @@ same_picks rows cells p q of_p of_q (suc n) le_p le_q same =
     let cell : (pick_at p n).cell ≡ (pick_at q n).cell = same n (omega arith) in
     let one : IsChoice rows cells (take n p) (pick_at p n).cell (pick_at p n).segment = of_p n (omega arith) in
     let two : IsChoice rows cells (take n p) (pick_at p n).cell (pick_at q n).segment
-      = subst (λ (ps : List Pick). IsChoice rows cells ps (pick_at p n).cell (pick_at q n).segment) (sym before)
-      (subst (λ (c : ℕ). IsChoice rows cells (take n q) c (pick_at q n).segment) (sym cell) (of_q n (omega arith))) in
+    = subst (λ (ps : List Pick). IsChoice rows cells ps (pick_at p n).cell (pick_at q n).segment) (sym before)
+    (subst (λ (c : ℕ). IsChoice rows cells (take n q) c (pick_at q n).segment) (sym cell) (of_q n (omega arith))) in
     let here = same_pick (pick_at p n) (pick_at q n) cell (one_choice rows cells (take n p) (pick_at p n).cell (pick_at p n).segment (pick_at q n).segment one two) in
     subst (λ (m : ℕ). take m p ≡ take m q) (add_one n) (take_more_same p q n (pick_at [] 0) (omega arith) (omega arith) before here) where
-  add_one : (n : ℕ) → n + 1 ≡ suc n
-  add_one n = omega arith
+      add_one : (n : ℕ) → n + 1 ≡ suc n
+      add_one n = omega arith
 
 -- ---- one list of picks
 
@@ -50,9 +48,6 @@ same_picks rows cells p q of_p of_q (suc n) le_p le_q same =
 record IsFront (rows : SegmentsValue) (cells : CellsValue) (order : List ℕ) (picks : List Pick) : Type 0 where
   choices : AreChoices rows cells picks
   cell : (i : ℕ) → i < length picks → slice_index order i ≡ (pick_at picks i).cell
-
-abbrev cell_of : Pick → ℕ
-cell_of pick = pick.cell
 
 front_of : (rows : SegmentsValue) (cells : CellsValue) (picks : List Pick) (rest : List ℕ) → AreChoices rows cells picks → IsFront rows cells (cells_in picks ++ rest) picks
 front_of rows cells picks rest choices = record {
@@ -98,7 +93,7 @@ pub never_both : (rows : SegmentsValue) (cells : CellsValue) (picks : List Pick)
 never_both rows cells picks c largest greedy stuck =
     let same = one_taking cells (cells_in picks) (cells_in stuck.picks ++ c ∷ stuck.rest) greedy.order stuck.order in
     let longer : length stuck.picks < length picks
-      = omega (arith, ap length same, length-map picks cell_of, length-append (cells_in stuck.picks) (c ∷ stuck.rest), length-map stuck.picks cell_of) in
+    = omega (arith, ap length same, length-map picks cell_of, length-append (cells_in stuck.picks) (c ∷ stuck.rest), length-map stuck.picks cell_of) in
     no_longer rows cells (cells_in stuck.picks ++ c ∷ stuck.rest) stuck.picks picks c (front_of rows cells stuck.picks (c ∷ stuck.rest) stuck.choices)
     (subst (λ (xs : List ℕ). IsFront rows cells xs picks) same (whole_front rows cells picks greedy.choices)) (next_cell stuck.picks c stuck.rest) stuck.full longer
 

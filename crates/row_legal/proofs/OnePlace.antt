@@ -1,13 +1,13 @@
 -- Cells with their segments have one place each.
-use Rattle.std.proofs.Common.{◌≡◌, ℕ, ◌<◌, ◌≤◌, ◌-◌, min, List, [], length, get_or, drop, refl, sym, ap, ◌∙◌, subst, arith}
+use Rattle.std.proofs.Common.{◌≡◌, ℕ, ◌<◌, ◌≤◌, ◌-◌, min, List, [], length, drop, refl, sym, ap, ◌∙◌, subst, arith}
 use Rattle.std.specs.Prelude.{slice_index, sum}
 use Rattle.std.proofs.lemmas.List.{get_or_default, same_lists}
 use Rattle.row_space.specs.Values.{SegmentsValue, segment_at}
 use Rattle.row_legal.specs.declared.parts.Place.{Place}
 use Rattle.row_legal.specs.Cells.{CellsValue, count}
 use Rattle.row_legal.specs.Greedy.{Pick, pick_at}
-use Rattle.row_legal.specs.Line.{shoved, IsFirst}
-use Rattle.row_legal.specs.Places.{row_order, cells_at, IsRow, desires, widths, IsPlace, place_at, IsPlaced, IsLegalised}
+use Rattle.row_legal.specs.Line.{IsFirst}
+use Rattle.row_legal.specs.Places.{row_order, cells_at, IsRow, desires, widths, IsPlace, place_at, IsLegalised}
 use Rattle.row_legal.proofs.Locating.{pick_of, in_row}
 use Rattle.row_legal.proofs.Orders.{one_order}
 use Rattle.row_legal.proofs.Taken.{row_tells}
@@ -16,8 +16,8 @@ use Rattle.row_legal.proofs.OnePick.{one_greedy}
 one_first : (ds ws : List ℕ) (i e f : ℕ) → IsFirst ds ws i e → IsFirst ds ws i f → e ≡ f
 one_first ds ws i e f a b =
     two_ways (subst (λ (n : ℕ). n ≤ f) a.reached (b.above a.at a.up_to)) (subst (λ (n : ℕ). n ≤ e) b.reached (a.above b.at b.up_to)) where
-  two_ways : e ≤ f → f ≤ e → e ≡ f
-  two_ways low high = omega arith
+      two_ways : e ≤ f → f ≤ e → e ≡ f
+      two_ways low high = omega arith
 
 one_row : (cells : CellsValue) (picks : List Pick) (s : ℕ) (row other : List ℕ) → IsRow cells picks s row → IsRow cells picks s other → row ≡ other
 one_row cells picks s row other a b = one_order (row_order cells) (row_tells cells) (cells_at picks s) row other a.all b.all a.sorted b.sorted

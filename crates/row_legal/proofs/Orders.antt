@@ -1,5 +1,5 @@
 -- Numbers can be put in an order that tells all of them apart, and in one way only.
-use Rattle.std.proofs.Common.{◌≡◌, ◌≢◌, ◌⊎◌, ℕ, zero, suc, ◌+◌, ◌<◌, ◌≤◌, Bool, true, false, cond, eqb, List, [], ◌∷◌, length, get_or, refl, sym, ap, ◌∙◌, subst, inl, inr, arith}
+use Rattle.std.proofs.Common.{◌≡◌, ◌≢◌, ◌⊎◌, ℕ, suc, ◌+◌, ◌≤◌, Bool, true, false, cond, eqb, List, [], ◌∷◌, refl, sym, ap, ◌∙◌, subst, inl, inr, arith}
 use Rattle.std.specs.Prelude.{All, slice_index}
 use Rattle.std.specs.declared.cmp.Ordering.{Ordering}
 use Rattle.std.specs.declared.cmp.Ordering.TheVariants.{Less, Equal, Greater}
@@ -113,7 +113,7 @@ one_way cmp tells (x ∷ xs) [] same up_x up_y = let none : 0 ≡ often x (x ∷
 one_way cmp tells (x ∷ xs) (y ∷ ys) same up_x up_y =
     let head = same_head cmp tells x y xs ys (stands_once x (y ∷ ys) (omega (arith, same x, often_head x xs))) (stands_once y (x ∷ xs) (omega (arith, same y, often_head y ys))) up_x up_y in
     let rest = one_way cmp tells xs ys (λ z. omega (arith, same z, sum_by-cons (one_if_same z) x xs, sum_by-cons (one_if_same z) y ys, ap (one_if_same z) head))
-      (pairs_tail (Behind cmp) x xs up_x) (pairs_tail (Behind cmp) y ys up_y) in
+    (pairs_tail (Behind cmp) x xs up_x) (pairs_tail (Behind cmp) y ys up_y) in
     ap (λ h. h ∷ xs) head ∙ ap (λ t. y ∷ t) rest
 
 pairs_of : (cmp : ℕ → ℕ → Ordering) → IsTotalOrder cmp → (xs : List ℕ) → IsSorted cmp xs → AllPairs (Behind cmp) xs

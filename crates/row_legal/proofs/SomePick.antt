@@ -1,12 +1,13 @@
 -- The greedy rule goes on to the last cell, or ends at a cell without room.
-use Rattle.std.proofs.Common.{◌≡◌, ◌⊎◌, ℕ, zero, suc, ◌+◌, ◌-◌, ◌<◌, ◌≤◌, List, [], ◌∷◌, ◌++◌, length, get_or, map, take, drop, refl, sym, ap, ◌∙◌, subst, inl, inr, arith}
+use Rattle.std.proofs.Common.{◌≡◌, ◌⊎◌, ℕ, zero, suc, ◌+◌, ◌<◌, ◌≤◌, List, [], ◌∷◌, ◌++◌, length, take, drop, refl, sym, ap, ◌∙◌, subst, inl, inr, arith}
 use Rattle.std.specs.Prelude.{slice_index}
 use Rattle.std.proofs.lemmas.Bool.{cases_lt}
 use Rattle.std.proofs.lemmas.List.{length-map, length-append, length_push, take_all, take_more, take_at, take-append-le, take-append-drop, drop_more, get_or_append_left, get_or_at, map_push}
-use Rattle.row_space.specs.Values.{SegmentsValue, segment_at}
+use Rattle.row_space.specs.Values.{SegmentsValue}
 use Rattle.row_legal.specs.Cells.{CellsValue, count, sites_at}
-use Rattle.row_legal.specs.Greedy.{Pick, cells_in, room_left, HasRoom, cost, IsChoice, IsTakingOrder, pick_at, AreChoices, IsGreedy, IsLargest, IsStuck}
+use Rattle.row_legal.specs.Greedy.{Pick, cells_in, room_left, cost, IsChoice, IsTakingOrder, pick_at, AreChoices, IsGreedy}
 use Rattle.row_legal.specs.Answers.{HasNoRoom}
+use Rattle.row_legal.proofs.Locating.{cell_of, pick_by}
 use Rattle.row_legal.proofs.Taken.{some_taking, are_cells}
 
 -- what holds of the first n numbers and of n
@@ -76,19 +77,25 @@ some_most rooms zero = (0, record { above = λ s lt. absurd (omega arith); none 
 some_most rooms (suc n) = by_cases (some_most rooms n) where
   by_cases : (most : ℕ) × IsMost rooms n most → (most : ℕ) × IsMost rooms (suc n) most
   by_cases before = elim (cases_lt before.0 (rooms n)) [
-    | inl more ↦ (rooms n, record {
+    | inl more ↦ (
+      rooms n,
+      record {
         above = up_to (λ (s : ℕ). rooms s ≤ rooms n) n (λ s lt. let low = before.1.above s lt in omega arith) (omega arith);
         none = λ empty. absurd (omega arith);
         reached = λ some. (n, omega arith, refl);
-      })
-    | inr less ↦ (before.0, record {
+      },
+    )
+    | inr less ↦ (
+      before.0,
+      record {
         above = up_to (λ (s : ℕ). rooms s ≤ before.0) n before.1.above less;
         none = λ empty. absurd (omega arith);
         reached = λ some. elim (cases_lt 0 n) [
           | inl earlier ↦ let at = before.1.reached earlier in (at.0, omega (arith, at.1), at.2)
           | inr alone ↦ let zero_of = before.1.none (omega arith) in (n, omega arith, omega arith)
         ];
-      })
+      },
+    )
   ]
 
 -- ---- cell after cell
@@ -107,12 +114,6 @@ record Ended (rows : SegmentsValue) (cells : CellsValue) (order : List ℕ) : Ty
   whole : (cells_in picks ++ cell ∷ rest) ≡ order
   choices : AreChoices rows cells picks
   full : NoneHasRoom (sites_at cells cell) (room_left rows cells picks) (length rows.segments)
-
-abbrev pick_by : ℕ → ℕ → Pick
-pick_by cell segment = record { cell = cell; segment = segment }
-
-abbrev cell_of : Pick → ℕ
-cell_of pick = pick.cell
 
 choice_of : (rows : SegmentsValue) (cells : CellsValue) (picks : List Pick) (c s : ℕ)
     → IsBest (sites_at cells c) (room_left rows cells picks) (cost rows cells c) (length rows.segments) s → IsChoice rows cells picks c s
@@ -190,9 +191,9 @@ no_room rows cells order some taking ended =
           | inr none ↦
               let zero_of : most.0 ≡ 0 = most.1.none (omega arith) in
               let next : slice_index (cells_in ended.picks ++ ended.cell ∷ ended.rest) (length ended.picks) ≡ ended.cell
-                = get_or_at (cells_in ended.picks) ended.cell ended.rest 0 (length ended.picks) (length-map ended.picks cell_of) in
+              = get_or_at (cells_in ended.picks) ended.cell ended.rest 0 (length ended.picks) (length-map ended.picks cell_of) in
               let there : length ended.picks < length order
-                = omega (arith, ap length ended.whole, length-append (cells_in ended.picks) (ended.cell ∷ ended.rest), length-map ended.picks cell_of) in
+              = omega (arith, ap length ended.whole, length-append (cells_in ended.picks) (ended.cell ∷ ended.rest), length-map ended.picks cell_of) in
               let is_cell : slice_index order (length ended.picks) < count cells = are_cells cells order taking (length ended.picks) 0 there in
               let same : slice_index order (length ended.picks) ≡ ended.cell = sym (ap (λ (xs : List ℕ). slice_index xs (length ended.picks)) ended.whole) ∙ next in
               let one : 1 ≤ sites_at cells ended.cell = some ended.cell (subst (λ (c : ℕ). c < count cells) same is_cell) in
@@ -210,8 +211,11 @@ some_end rows cells some = by_cases (some_way rows cells order.0 (length order.0
 
   by_cases : Went rows cells order.0 (length order.0) ⊎ Ended rows cells order.0
       → ((picks : List Pick) × IsGreedy rows cells picks) ⊎ ((cell : ℕ) × (sites : ℕ) × (largest : ℕ) × HasNoRoom rows cells cell sites largest)
-  by_cases (inl went) = inl (went.picks, record {
-    order = subst (IsTakingOrder cells) (sym (went.front ∙ take_all (length order.0) order.0 (omega arith))) order.1;
-    choices = went.choices;
-  })
+  by_cases (inl went) = inl (
+    went.picks,
+    record {
+      order = subst (IsTakingOrder cells) (sym (went.front ∙ take_all (length order.0) order.0 (omega arith))) order.1;
+      choices = went.choices;
+    },
+  )
   by_cases (inr ended) = let end = no_room rows cells order.0 some order.1 ended in inr (ended.cell, sites_at cells ended.cell, end.0, end.1)

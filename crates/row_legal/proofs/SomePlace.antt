@@ -1,20 +1,19 @@
 -- Cells with their segments have places.
-use Rattle.std.proofs.Common.{◌≡◌, ◌≢◌, ◌⊎◌, ℕ, zero, suc, ◌+◌, ◌-◌, ◌<◌, ◌≤◌, Bool, true, false, cond, eqb, min, List, [], ◌∷◌, ◌++◌, length, get_or, map, take, drop, refl, sym, ap, ◌∙◌, subst, inl, inr, arith}
+use Rattle.std.proofs.Common.{◌≡◌, ℕ, zero, suc, ◌+◌, ◌-◌, ◌<◌, ◌≤◌, Bool, true, false, cond, eqb, min, List, [], ◌∷◌, ◌++◌, length, get_or, take, drop, refl, sym, ap, ◌∙◌, subst, inl, inr, arith}
 use Rattle.std.specs.Prelude.{slice_index, sum}
-use Rattle.std.specs.List.{filter, sum_by, range_with_len}
-use Rattle.std.specs.List.Sorted.{IsPermutation}
+use Rattle.std.specs.List.{filter, range_with_len}
 use Rattle.std.proofs.lemmas.Bool.{cases_lt, cases_eq, cases_order}
 use Rattle.std.proofs.lemmas.Bool.Decides.{nat_tests}
-use Rattle.std.proofs.lemmas.List.{get_or-map, length-map, get_or_default, get_or-take, length-take, length_push, get_or_append_left, get_or_at}
+use Rattle.std.proofs.lemmas.List.{get_or-map, length-map, get_or-take, length-take, length_push, get_or_append_left, get_or_at}
 use Rattle.std.proofs.lemmas.List.Sums.{sum_by-cons, sum_by_more_le, get_or-le-sum_by}
 use Rattle.std.proofs.lemmas.List.Sorted.{Contains-permutation, IsPermutation-sym}
 use Rattle.row_space.specs.Values.{SegmentsValue, segment_at}
 use Rattle.row_legal.specs.declared.parts.Place.{Place}
-use Rattle.row_legal.specs.Cells.{CellsValue, count, sites_at}
+use Rattle.row_legal.specs.Cells.{CellsValue, count}
 use Rattle.row_legal.specs.Greedy.{Pick, cells_in, pick_at, IsTakingOrder, IsGreedy}
 use Rattle.row_legal.specs.Line.{shoved, IsFirst}
-use Rattle.row_legal.specs.Places.{row_order, cells_at, IsRow, desires, widths, IsPlace, place_at, IsPlaced, IsLegalised}
-use Rattle.row_legal.proofs.Locating.{StandsAt, stands, contains, HasPick, pick_of, in_row}
+use Rattle.row_legal.specs.Places.{row_order, cells_at, IsRow, desires, widths, IsPlace, place_at, IsLegalised}
+use Rattle.row_legal.proofs.Locating.{cell_of, stands, contains, HasPick, pick_of, in_row}
 use Rattle.row_legal.proofs.Orders.{one_if_same, often, one_if, none_if, often_moved, in_order}
 use Rattle.row_legal.proofs.Taken.{row_tells, are_cells}
 
@@ -162,16 +161,19 @@ some_list : (P : ℕ → Place → Type 0) (n : ℕ) → ((c : ℕ) → c < n �
 some_list P zero there = ([], record { all = refl; each = λ c lt. absurd (omega arith) })
 some_list P (suc n) there = by_last (some_list P n (λ c lt. there c (omega arith))) (there n (omega arith)) where
   by_last : (places : List Place) × IsList P n places → (place : Place) × P n place → (places : List Place) × IsList P (suc n) places
-  by_last before last = (before.0 ++ last.0 ∷ [], record {
-    all = omega (arith, length_push before.0 last.0, before.1.all);
-    each = λ c lt. elim (cases_lt c n) [
-      | inl earlier ↦ subst (P c) (sym (get_or_append_left before.0 (last.0 ∷ []) (place_at [] 0) c (omega (arith, before.1.all)))) (before.1.each c earlier)
-      | inr behind ↦
-          let here : n ≡ c = omega arith in
-          let at = get_or_at before.0 last.0 [] (place_at [] 0) n before.1.all in
-          subst (λ (k : ℕ). P k (place_at (before.0 ++ last.0 ∷ []) k)) here (subst (P n) (sym at) last.1)
-    ];
-  })
+  by_last before last = (
+    before.0 ++ last.0 ∷ [],
+    record {
+      all = omega (arith, length_push before.0 last.0, before.1.all);
+      each = λ c lt. elim (cases_lt c n) [
+        | inl earlier ↦ subst (P c) (sym (get_or_append_left before.0 (last.0 ∷ []) (place_at [] 0) c (omega (arith, before.1.all)))) (before.1.each c earlier)
+        | inr behind ↦
+            let here : n ≡ c = omega arith in
+            let at = get_or_at before.0 last.0 [] (place_at [] 0) n before.1.all in
+            subst (λ (k : ℕ). P k (place_at (before.0 ++ last.0 ∷ []) k)) here (subst (P n) (sym at) last.1)
+      ];
+    },
+  )
 
 -- a cell at its place in the row of a segment
 record IsAtRow (rows : SegmentsValue) (cells : CellsValue) (picks : List Pick) (c : ℕ) (place : Place) (s : ℕ) : Type 0 where
@@ -180,27 +182,53 @@ record IsAtRow (rows : SegmentsValue) (cells : CellsValue) (picks : List Pick) (
   is : slice_index (row_of cells picks s) at ≡ c
   is_place : IsPlace rows cells s (row_of cells picks s) at place
 
-abbrev cell_of : Pick → ℕ
-cell_of pick = pick.cell
+-- a cell has one pick
+one_pick : (cells : CellsValue) (picks : List Pick) (c i j : ℕ) → IsTakingOrder cells (cells_in picks) → i < length picks → j < length picks → (pick_at picks i).cell ≡ c → (pick_at picks j).cell ≡ c → i ≡ j
+one_pick cells picks c i j order there_i there_j at_i at_j =
+    one_stand c (cells_in picks) i j (few_taken cells picks c order) (omega (arith, there_i, length-map picks cell_of)) (omega (arith, there_j, length-map picks cell_of))
+    (get_or-map cell_of picks i (pick_at [] 0) 0 there_i ∙ at_i) (get_or-map cell_of picks j (pick_at [] 0) 0 there_j ∙ at_j)
+
+-- a cell of a row has a pick for its segment
+row_pick : (cells : CellsValue) (picks : List Pick) (s i : ℕ) → i < length (row_of cells picks s) → HasPickAt picks s (slice_index (row_of cells picks s) i)
+row_pick cells picks s i there =
+    let row = row_of cells picks s in
+    let c = slice_index row i in
+    let back = stands (cells_at picks s) c (Contains-permutation row (cells_at picks s) c (IsPermutation-sym (cells_at picks s) row (row_is cells picks s).all) (contains row c (record { at = i; there = there; is = refl }))) in
+    picked_at picks s c back.at back.there back.is
+
+pick_is_cell : (cells : CellsValue) (picks : List Pick) (s c : ℕ) → IsTakingOrder cells (cells_in picks) → HasPickAt picks s c → c < count cells
+pick_is_cell cells picks s c order pick =
+    let is : slice_index (cells_in picks) pick.at ≡ c = get_or-map cell_of picks pick.at (pick_at [] 0) 0 pick.there ∙ pick.cell in
+    let is_cell : slice_index (cells_in picks) pick.at < count cells = are_cells cells (cells_in picks) order pick.at 0 (omega (arith, pick.there, length-map picks cell_of)) in
+    omega (arith, is, is_cell)
+
+-- the place that was found for a cell is one in the row of each of its picks
+in_row_of : (rows : SegmentsValue) (cells : CellsValue) (picks : List Pick) (c s : ℕ) (place : Place) → IsTakingOrder cells (cells_in picks) → HasPickAt picks s c → IsSpotted rows cells picks c place
+    → IsAtRow rows cells picks c place s
+in_row_of rows cells picks c s place order pick spot =
+    let same = one_pick cells picks c spot.pick.at pick.at order spot.pick.there pick.there spot.pick.is pick.cell in
+    let segment : (pick_at picks spot.pick.at).segment ≡ s = ap (λ (k : ℕ). (pick_at picks k).segment) same ∙ pick.segment in
+    let here : IsAtRow rows cells picks c place (pick_at picks spot.pick.at).segment = record { at = spot.at; there = spot.there; is = spot.is; is_place = spot.is_place } in
+    subst (IsAtRow rows cells picks c place) segment here
+
+-- and that one is its own
+own_place : (rows : SegmentsValue) (cells : CellsValue) (picks : List Pick) (s i : ℕ) (place : Place) → IsTakingOrder cells (cells_in picks) → i < length (row_of cells picks s)
+    → IsAtRow rows cells picks (slice_index (row_of cells picks s) i) place s → IsPlace rows cells s (row_of cells picks s) i place
+own_place rows cells picks s i place order there here =
+    let row = row_of cells picks s in
+    let c = slice_index row i in
+    let few : often c row ≤ 1 = omega (arith, often_moved c (cells_at picks s) row (row_is cells picks s).all, few_at picks s c, few_taken cells picks c order) in
+    let same : here.at ≡ i = one_stand c row here.at i few here.there there here.is refl in
+    subst (λ (k : ℕ). IsPlace rows cells s row k place) {x = here.at} same here.is_place
 
 -- the row of a segment has its places
 placed_row : (rows : SegmentsValue) (cells : CellsValue) (picks : List Pick) (places : List Place) → IsTakingOrder cells (cells_in picks) → IsList (IsSpotted rows cells picks) (count cells) places
     → (s i : ℕ) → i < length (row_of cells picks s) → IsPlace rows cells s (row_of cells picks s) i (place_at places (slice_index (row_of cells picks s) i))
 placed_row rows cells picks places order list s i there =
-    let row = row_of cells picks s in
-    let c = slice_index row i in
-    let back = stands (cells_at picks s) c (Contains-permutation row (cells_at picks s) c (IsPermutation-sym (cells_at picks s) row (row_is cells picks s).all) (contains row c (record { at = i; there = there; is = refl }))) in
-    let pick = picked_at picks s c back.at back.there back.is in
-    let is_taken : slice_index (cells_in picks) pick.at ≡ c = get_or-map cell_of picks pick.at (pick_at [] 0) 0 pick.there ∙ pick.cell in
-    let among : pick.at < length (cells_in picks) = omega (arith, pick.there, length-map picks cell_of) in
-    let is_cell : slice_index (cells_in picks) pick.at < count cells = are_cells cells (cells_in picks) order pick.at 0 among in
-    let spot = list.each c (subst (λ (d : ℕ). d < count cells) is_taken is_cell) in
-    let other_taken : slice_index (cells_in picks) spot.pick.at ≡ c = get_or-map cell_of picks spot.pick.at (pick_at [] 0) 0 spot.pick.there ∙ spot.pick.is in
-    let same : spot.pick.at ≡ pick.at = one_stand c (cells_in picks) spot.pick.at pick.at (few_taken cells picks c order) (omega (arith, spot.pick.there, length-map picks cell_of)) among other_taken is_taken in
-    let segment : (pick_at picks spot.pick.at).segment ≡ s = ap (λ (k : ℕ). (pick_at picks k).segment) same ∙ pick.segment in
-    let here : IsAtRow rows cells picks c (place_at places c) s = subst (IsAtRow rows cells picks c (place_at places c)) segment (record { at = spot.at; there = spot.there; is = spot.is; is_place = spot.is_place }) in
-    let few : often c row ≤ 1 = omega (arith, often_moved c (cells_at picks s) row (row_is cells picks s).all, few_at picks s c, few_taken cells picks c order) in
-    subst (λ (k : ℕ). IsPlace rows cells s row k (place_at places c)) (one_stand c row here.at i few here.there there here.is refl) here.is_place
+    let c = slice_index (row_of cells picks s) i in
+    let pick = row_pick cells picks s i there in
+    let spot = list.each c (pick_is_cell cells picks s c order pick) in
+    own_place rows cells picks s i (place_at places c) order there (in_row_of rows cells picks c s (place_at places c) order pick spot)
 
 -- all cells with their segments have places
 pub some_places : (rows : SegmentsValue) (cells : CellsValue) (picks : List Pick) → IsGreedy rows cells picks → (places : List Place) × IsLegalised rows cells places

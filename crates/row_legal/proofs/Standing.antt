@@ -1,11 +1,11 @@
 -- Places that are apart, in segments that are clear, are legal.
-use Rattle.std.proofs.Common.{◌≡◌, ◌≢◌, ◌⊎◌, ℕ, ◌+◌, ◌*◌, ◌<◌, ◌≤◌, Bool, true, false, cond, List, [], length, get_or, take, map, refl, sym, ap, ◌∙◌, subst, inl, inr, arith, ℤ, pos, negsuc, ◌+ℤ◌, ◌*ℤ◌, ◌≤ℤ◌, ◌<ℤ◌}
-use Rattle.std.specs.Prelude.{slice_index, int_lt, ◌&&◌, not, max, nat_abs}
+use Rattle.std.proofs.Common.{◌≡◌, ◌≢◌, ℕ, ◌+◌, ◌*◌, ◌<◌, ◌≤◌, Bool, true, false, cond, List, [], refl, sym, ap, ◌∙◌, subst, inl, inr, arith, ℤ, pos, negsuc, ◌+ℤ◌, ◌*ℤ◌, ◌≤ℤ◌, ◌<ℤ◌}
+use Rattle.std.specs.Prelude.{int_lt, ◌&&◌}
 use Rattle.std.specs.Int.{int_max, int_min, div_ceil}
-use Rattle.std.specs.List.{count_by, AllByRecursion}
+use Rattle.std.specs.List.{count_by}
 use Rattle.std.proofs.Math.Nat.{mul-le-mul_right}
 use Rattle.std.proofs.lemmas.Int.{ints, clamps}
-use Rattle.std.proofs.lemmas.Bool.{cases_order, and_parts}
+use Rattle.std.proofs.lemmas.Bool.{both_ways, not-true, cases_order, and_parts, and_from, false_from_ne_true}
 use Rattle.std.proofs.lemmas.Grind.{div_ceil_times}
 use Rattle.std.proofs.lemmas.List.{get_or-map, length-map}
 use Rattle.std.proofs.lemmas.List.Sums.{sum_by_more_le}
@@ -14,15 +14,15 @@ use Rattle.book_design.specs.Values.{NodeValue, DesignValue}
 use Rattle.book_design.specs.Points.{is_movable, node_value_at, IsNodeOf, site_count, movable_before}
 use Rattle.book_design.specs.WellFormed.{IsDesign, IsGoodNode, subrow_at}
 use Rattle.row_space.specs.declared.parts.Segment.{Segment}
-use Rattle.row_space.specs.Values.{SegmentsValue, segment_at}
+use Rattle.row_space.specs.Values.{segment_at}
 use Rattle.row_space.specs.Rectangles.{Rectangle, share_area, node_rectangle, segment_rectangle, blocks}
 use Rattle.row_space.specs.Runs.{segments_of}
-use Rattle.row_space.specs.Clear.{IsClear, AreClear}
+use Rattle.row_space.specs.Clear.{AreClear}
 use Rattle.row_legal.specs.declared.parts.Place.{Place}
 use Rattle.row_legal.specs.Cells.{CellsValue, count, sites_at}
 use Rattle.row_legal.specs.Places.{place_at}
 use Rattle.row_legal.specs.Apart.{AreApart}
-use Rattle.row_legal.specs.Legal.{Spot, spot_at, LiesIn, subrow_rectangle, cell_rectangle, outline, IsLegalCell, IsLegal}
+use Rattle.row_legal.specs.Legal.{Spot, spot_at, LiesIn, IsLegalCell, IsLegal}
 use Rattle.row_legal.specs.Spots.{spot_of, spots_of, AreSitesOf}
 
 lt_of : (x y : ℤ) → int_lt x y ≡ true → x <ℤ y
@@ -30,9 +30,6 @@ lt_of x y h = grind (arith, ints)
 
 of_lt : (x y : ℤ) → x <ℤ y → int_lt x y ≡ true
 of_lt x y h = grind (arith, ints)
-
-not_lt : (x y : ℤ) → y ≤ℤ x → int_lt x y ≡ false
-not_lt x y h = grind (arith, ints)
 
 -- ---- rectangles
 
@@ -46,42 +43,31 @@ meet_of a b h =
     let parts = and_parts (int_lt (int_max a.left b.left) (int_min a.right b.right)) (int_lt (int_max a.lower b.lower) (int_min a.upper b.upper)) h in
     record { columns = lt_of _ _ parts.0; rows = lt_of _ _ parts.1 }
 
-both : (x y : Bool) → x ≡ true → y ≡ true → (x && y) ≡ true
-both true y hx hy = hy
-both false y hx hy = hx
-
 of_meet : (a b : Rectangle) → Meet a b → share_area a b ≡ true
-of_meet a b m = both _ _ (of_lt _ _ m.columns) (of_lt _ _ m.rows)
-
-no_by : (b : Bool) → (b ≡ true → b ≡ false) → b ≡ false
-no_by true h = h refl
-no_by false h = refl
-
-clash : (b : Bool) {A : Type 0} → b ≡ true → b ≡ false → A
-clash b t f = absurd (cc)
+of_meet a b m = and_from _ _ (of_lt _ _ m.columns) (of_lt _ _ m.rows)
 
 -- what shares no area with two rectangles shares none with parts of them
 parts_apart : (a b r q : Rectangle) → LiesIn a r → LiesIn b q → share_area r q ≡ false → share_area a b ≡ false
-parts_apart a b r q in_r in_q apart = no_by (share_area a b) (λ holds.
+parts_apart a b r q in_r in_q apart = false_from_ne_true (share_area a b) (λ holds.
     let m = meet_of a b holds in
     let whole : Meet r q = record { columns = omega (arith, ints, clamps, m.columns, in_r.left, in_r.right, in_q.left, in_q.right); rows = omega (arith, ints, clamps, m.rows, in_r.lower, in_r.upper, in_q.lower, in_q.upper) } in
-    clash (share_area r q) (of_meet r q whole) apart)
+    both_ways (share_area r q) apart (of_meet r q whole))
 
 itself : (a : Rectangle) → LiesIn a a
 itself a = record { left = omega (arith, ints); right = omega (arith, ints); lower = omega (arith, ints); upper = omega (arith, ints) }
 
 -- side by side
 beside : (a b : Rectangle) → a.right ≤ℤ b.left → share_area a b ≡ false
-beside a b h = no_by (share_area a b) (λ holds. let m = meet_of a b holds in absurd (omega (arith, ints, clamps, m.columns)))
+beside a b h = false_from_ne_true (share_area a b) (λ holds. let m = meet_of a b holds in absurd (omega (arith, ints, clamps, m.columns)))
 
 beside_too : (a b : Rectangle) → b.right ≤ℤ a.left → share_area a b ≡ false
-beside_too a b h = no_by (share_area a b) (λ holds. let m = meet_of a b holds in absurd (omega (arith, ints, clamps, m.columns)))
+beside_too a b h = false_from_ne_true (share_area a b) (λ holds. let m = meet_of a b holds in absurd (omega (arith, ints, clamps, m.columns)))
 
 swapped : (a b : Rectangle) → share_area b a ≡ false → share_area a b ≡ false
-swapped a b apart = no_by (share_area a b) (λ holds.
+swapped a b apart = false_from_ne_true (share_area a b) (λ holds.
     let m = meet_of a b holds in
     let back : Meet b a = record { columns = omega (arith, ints, clamps, m.columns); rows = omega (arith, ints, clamps, m.rows) } in
-    clash (share_area b a) (of_meet b a back) apart)
+    both_ways (share_area b a) apart (of_meet b a back))
 
 -- ---- sites
 
@@ -167,10 +153,6 @@ not_blocked node r q within clear = by_fixed node.fixed clear where
   by_fixed true h = parts_apart (node_rectangle node) r (node_rectangle node) q (itself (node_rectangle node)) within h
   by_fixed false h = refl
 
-flip : (b : Bool) → not b ≡ true → b ≡ false
-flip true h = sym h
-flip false h = refl
-
 -- some sites of a run of a subrow, told from the subrow's first
 onward : (pitch x seg : ℤ) (from site : ℕ) → pos 1 ≤ℤ pitch → seg ≡ x +ℤ pos from *ℤ pitch → (seg +ℤ pos site *ℤ pitch) ≡ x +ℤ pos (from + site) *ℤ pitch
 onward pitch x seg from site some is = let s = side pitch from site (from + site) some (omega arith) in omega (arith, ints, s.sum, is)
@@ -204,10 +186,10 @@ legal_cell design cells places valid clear sites apart p i node =
         left = omega (arith, ints);
         right = omega (arith, ints, wide_enough (node_value_at design.nodes i).width design.pitch good.width_sign valid.pitch_sign);
         lower = omega (arith, ints);
-        upper = omega (arith, ints, good.low (flip (node_value_at design.nodes i).fixed node.movable));
+        upper = omega (arith, ints, good.low (not-true (node_value_at design.nodes i).fixed node.movable));
       };
       free = λ k lt. not_blocked (node_value_at design.nodes k) (sites_at_spot design w (spot_of (segments_of design) at)) (segment_rectangle design segment)
-        (in_segment design cells places valid apart p w cell.there cell.sites) (run.free k lt);
+          (in_segment design cells places valid apart p w cell.there cell.sites) (run.free k lt);
     }
 
 -- two cells, in one segment or in two
@@ -242,12 +224,12 @@ pub legal : (design : DesignValue) (cells : CellsValue) (places : List Place) �
 legal design cells places valid clear sites apart = record {
   all = length-map places (spot_of (segments_of design)) ∙ apart.all ∙ sites.all;
   each = λ p i node.
-    let cell = cell_of design cells places sites apart p i node in
-    subst (λ (spot : Spot). IsLegalCell design (node_value_at design.nodes i) spot) (sym cell.spot) (legal_cell design cells places valid clear sites apart p i node);
+      let cell = cell_of design cells places sites apart p i node in
+      subst (λ (spot : Spot). IsLegalCell design (node_value_at design.nodes i) spot) (sym cell.spot) (legal_cell design cells places valid clear sites apart p i node);
   apart = λ p q i j other at_p at_q.
-    let one = cell_of design cells places sites apart p i at_p in
-    let two = cell_of design cells places sites apart q j at_q in
-    let v = site_count (node_value_at design.nodes i).width design.pitch in
-    let w = site_count (node_value_at design.nodes j).width design.pitch in
-    rw (one.spot, two.spot) (cells_apart design cells places valid clear apart p q v w other one.there two.there one.sites two.sites);
+      let one = cell_of design cells places sites apart p i at_p in
+      let two = cell_of design cells places sites apart q j at_q in
+      let v = site_count (node_value_at design.nodes i).width design.pitch in
+      let w = site_count (node_value_at design.nodes j).width design.pitch in
+      rw (one.spot, two.spot) (cells_apart design cells places valid clear apart p q v w other one.there two.there one.sites two.sites);
 }

@@ -1,9 +1,8 @@
 -- The orders in which cells are taken, and in which they stand in a row.
-use Rattle.std.proofs.Common.{◌≡◌, ℕ, ◌+◌, ◌<◌, List, length, get_or, refl, sym, ap, ◌∙◌, subst, arith}
-use Rattle.std.specs.Prelude.{All, ◌-ℤ◌}
+use Rattle.std.proofs.Common.{◌≡◌, ℕ, ◌<◌, List, arith}
+use Rattle.std.specs.Prelude.{All}
 use Rattle.std.specs.Ordering.{nat_cmp, int_cmp, ordering_then}
 use Rattle.std.specs.List.{range_with_len}
-use Rattle.std.specs.List.Sorted.{IsPermutation}
 use Rattle.std.proofs.lemmas.Cmp.{nat_cmp_total, int_cmp_total, on_total, then_total, back_total}
 use Rattle.std.proofs.lemmas.List.FromFn.{length-range_with_len, get_or-range_with_len}
 use Rattle.std.proofs.lemmas.List.Sorted.{All-permutation}
@@ -15,11 +14,11 @@ use Rattle.row_legal.proofs.Orders.{TellsApart, last_ties, number_ties, one_orde
 pub taking_tells : (cells : CellsValue) → TellsApart (taking_order cells)
 taking_tells cells = record {
   total = then_total (back_total (on_total (sites_at cells) nat_cmp_total))
-    (then_total (on_total (λ (c : ℕ). (wish_at cells c).y) int_cmp_total) (then_total (on_total (λ (c : ℕ). (wish_at cells c).x) int_cmp_total) nat_cmp_total));
+      (then_total (on_total (λ (c : ℕ). (wish_at cells c).y) int_cmp_total) (then_total (on_total (λ (c : ℕ). (wish_at cells c).x) int_cmp_total) nat_cmp_total));
   ties = λ a b tie.
-    let x_tie = last_ties (int_cmp (wish_at cells a).y (wish_at cells b).y) (ordering_then (int_cmp (wish_at cells a).x (wish_at cells b).x) (nat_cmp a b))
+      let x_tie = last_ties (int_cmp (wish_at cells a).y (wish_at cells b).y) (ordering_then (int_cmp (wish_at cells a).x (wish_at cells b).x) (nat_cmp a b))
       (last_ties (nat_cmp (sites_at cells b) (sites_at cells a)) (ordering_then (int_cmp (wish_at cells a).y (wish_at cells b).y) (ordering_then (int_cmp (wish_at cells a).x (wish_at cells b).x) (nat_cmp a b))) tie) in
-    number_ties a b (last_ties (int_cmp (wish_at cells a).x (wish_at cells b).x) (nat_cmp a b) x_tie);
+      number_ties a b (last_ties (int_cmp (wish_at cells a).x (wish_at cells b).x) (nat_cmp a b) x_tie);
 }
 
 pub row_tells : (cells : CellsValue) → TellsApart (row_order cells)
