@@ -7,7 +7,7 @@ use Rattle.row_space.specs.Values.{SegmentsValue}
 use Rattle.row_legal.specs.Cells.{CellsValue, sites_at}
 use Rattle.row_legal.specs.Greedy.{Pick, cells_in, room_left, HasRoom, cost, IsChoice, pick_at, AreChoices, IsGreedy, IsLargest, IsStuck}
 use Rattle.row_legal.proofs.Locating.{cell_of, pick_by}
-use Rattle.row_legal.proofs.Taken.{one_taking}
+use Rattle.row_legal.proofs.CellOrders.{one_taking}
 
 two_ways : (m n : ℕ) → m ≤ n → n ≤ m → m ≡ n
 two_ways m n low high = omega arith

@@ -10,7 +10,7 @@ use Rattle.row_legal.specs.Line.{IsFirst}
 use Rattle.row_legal.specs.Places.{row_order, cells_at, IsRow, desires, widths, IsPlace, place_at, IsLegalised}
 use Rattle.row_legal.proofs.Locating.{pick_of, in_row}
 use Rattle.row_legal.proofs.Orders.{one_order}
-use Rattle.row_legal.proofs.Taken.{row_tells}
+use Rattle.row_legal.proofs.CellOrders.{row_tells}
 use Rattle.row_legal.proofs.OnePick.{one_greedy}
 
 one_first : (ds ws : List ℕ) (i e f : ℕ) → IsFirst ds ws i e → IsFirst ds ws i f → e ≡ f

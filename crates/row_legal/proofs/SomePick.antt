@@ -8,7 +8,7 @@ use Rattle.row_legal.specs.Cells.{CellsValue, count, sites_at}
 use Rattle.row_legal.specs.Greedy.{Pick, cells_in, room_left, cost, IsChoice, IsTakingOrder, pick_at, AreChoices, IsGreedy}
 use Rattle.row_legal.specs.Answers.{HasNoRoom}
 use Rattle.row_legal.proofs.Locating.{cell_of, pick_by}
-use Rattle.row_legal.proofs.Taken.{some_taking, are_cells}
+use Rattle.row_legal.proofs.CellOrders.{some_taking, are_cells}
 
 -- what holds of the first n numbers and of n
 up_to : (P : ℕ → Type 0) (n : ℕ) → ((t : ℕ) → t < n → P t) → P n → (t : ℕ) → t < suc n → P t

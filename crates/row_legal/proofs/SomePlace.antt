@@ -15,7 +15,7 @@ use Rattle.row_legal.specs.Line.{shoved, IsFirst}
 use Rattle.row_legal.specs.Places.{row_order, cells_at, IsRow, desires, widths, IsPlace, place_at, IsLegalised}
 use Rattle.row_legal.proofs.Locating.{cell_of, stands, contains, HasPick, pick_of, in_row}
 use Rattle.row_legal.proofs.Orders.{one_if_same, often, one_if, none_if, often_moved, in_order}
-use Rattle.row_legal.proofs.Taken.{row_tells, are_cells}
+use Rattle.row_legal.proofs.CellOrders.{row_tells, are_cells}
 
 -- ---- no cell stands twice
 

@@ -29,7 +29,8 @@ pub fn places_legal()
     clear_segments();
 }
 
-/// The greedy rule has one answer at most, places or a cell without room, and it has one where each cell takes a site.
+/// The greedy rule has one answer at most, places of all cells or a cell without room, and never both. Where the cells are good it
+/// has one: without segments, a cell of no site would have neither.
 pub fn one_answer()
     ensures one { (rows : SegmentsValue) (cells : CellsValue) → HasOneAnswerAtMost rows cells }
     ensures there { (rows : SegmentsValue) (cells : CellsValue) → AreGoodCells cells → HasAnswer rows cells }
