@@ -1,12 +1,12 @@
 -- The segments of a design are clear, and no two share area.
-use Rattle.std.proofs.Common.{◌≡◌, ◌⊎◌, ℕ, zero, suc, ◌+◌, ◌-◌, ◌<◌, ◌≤◌, Bool, true, false, cond, eqb, List, [], ◌∷◌, ◌++◌, length, get_or, map, refl, sym, ap, ◌∙◌, subst, inl, inr, arith, ℤ, pos, negsuc, ◌+ℤ◌, ◌*ℤ◌, ◌≤ℤ◌, ◌<ℤ◌}
-use Rattle.std.specs.Prelude.{not, ◌&&◌, ◌||◌, int_lt, All}
+use Rattle.std.proofs.Common.{◌≡◌, ◌⊎◌, ℕ, zero, suc, ◌+◌, ◌-◌, ◌<◌, ◌≤◌, Bool, true, false, eqb, List, [], ◌∷◌, length, get_or, refl, sym, ap, ◌∙◌, subst, inl, inr, arith, ℤ, pos, negsuc, ◌+ℤ◌, ◌*ℤ◌, ◌≤ℤ◌, ◌<ℤ◌}
+use Rattle.std.specs.Prelude.{not, ◌||◌, int_lt}
 use Rattle.std.specs.Int.{int_max, int_min}
-use Rattle.std.specs.List.{filter, flat_map, list_any, prefix_len, range_with_len, AllPairs}
+use Rattle.std.specs.List.{filter, flat_map, list_any, range_with_len}
 use Rattle.std.proofs.lemmas.Int.{ints, clamps, by_lt_z}
 use Rattle.std.proofs.lemmas.Bool.{cases_lt, and_parts}
 use Rattle.std.proofs.lemmas.Bool.Decides.{nat_tests}
-use Rattle.std.proofs.lemmas.List.{get_or-map, length-map, length-append, get_or_append_left, get_or-append_right, get_or_default}
+use Rattle.std.proofs.lemmas.List.{get_or-map, length-map, length-append, get_or_append_left, get_or-append_right}
 use Rattle.std.proofs.lemmas.List.Elements.{filter_passes, All-filter}
 use Rattle.std.proofs.lemmas.List.Kept.{AllPairs-filter}
 use Rattle.std.proofs.lemmas.List.Folds.{list_any_at}
@@ -15,7 +15,7 @@ use Rattle.std.proofs.lemmas.List.Sums.{prefix_len-le-length, prefix_len_passes,
 use Rattle.book_design.specs.declared.parts.Subrow.{Subrow}
 use Rattle.book_design.specs.Values.{NodeValue, DesignValue}
 use Rattle.book_design.specs.Points.{node_value_at}
-use Rattle.book_design.specs.WellFormed.{IsDesign, AreApart, subrow_at}
+use Rattle.book_design.specs.WellFormed.{IsDesign, subrow_at}
 use Rattle.row_space.specs.declared.parts.Segment.{Segment}
 use Rattle.row_space.specs.Values.{segment_at}
 use Rattle.row_space.specs.Rectangles.{Rectangle, share_area, node_rectangle, sites_rectangle, segment_rectangle, blocks}
@@ -23,6 +23,10 @@ use Rattle.row_space.specs.Runs.{is_free, begins, run_len, segment_from, segment
 use Rattle.row_space.specs.Clear.{IsClear, AreClear}
 use Rattle.row_space.proofs.Spans.{Narrower, narrower}
 use Rattle.row_space.proofs.Meeting.{Meet, meet_of, of_meet}
+
+unnegated : (b : Bool) → not b ≡ true → b ≡ false
+unnegated true h = sym h
+unnegated false h = refl
 
 -- ---- one run
 
@@ -35,6 +39,7 @@ record Long (free : ℕ → Bool) (n k : ℕ) : Type 0 where
   some : 0 < run_len free n k
   within : k + run_len free n k ≤ n
   clear : (i : ℕ) → k ≤ i → i < k + run_len free n k → free i ≡ true
+  stop : k + run_len free n k < n → free (k + run_len free n k) ≡ false
 
 long : (free : ℕ → Bool) (n k : ℕ) → IsRun free n k → Long free n k
 long free n k run = record {
@@ -48,8 +53,11 @@ long free n k run = record {
   ];
   within = omega (arith, most, many, run.there);
   clear = λ i low high.
-    let at : get_or (range_with_len k (n - k)) (i - k) 0 ≡ i = get_or-range_with_len k (n - k) (i - k) 0 (omega (arith, most, many)) ∙ (omega arith) in
-    sym (ap free at) ∙ prefix_len_passes free (range_with_len k (n - k)) (i - k) 0 (omega arith);
+      let at : get_or (range_with_len k (n - k)) (i - k) 0 ≡ i = get_or-range_with_len k (n - k) (i - k) 0 (omega (arith, most, many)) ∙ (omega arith) in
+      sym (ap free at) ∙ prefix_len_passes free (range_with_len k (n - k)) (i - k) 0 (omega arith);
+  stop = λ inner.
+      let at : get_or (range_with_len k (n - k)) (run_len free n k) 0 ≡ k + run_len free n k = get_or-range_with_len k (n - k) (run_len free n k) 0 (omega arith) in
+      sym (ap free at) ∙ prefix_len_stops free (range_with_len k (n - k)) 0 (omega (arith, many));
 } where
   many : length (range_with_len k (n - k)) ≡ n - k
   many = length-range_with_len k (n - k)
@@ -59,6 +67,13 @@ long free n k run = record {
 
   clash : (b : Bool) → b ≡ true → b ≡ false → ⊥
   clash b t f = cc
+
+-- the site before a run isn't free
+before_run : (free : ℕ → Bool) (k : ℕ) → begins free k ≡ true → 0 < k → free (k - 1) ≡ false
+before_run free k begun some =
+    let test : eqb k 0 ≡ false = grind (arith, nat_tests) in
+    let second = (and_parts (free k) ((eqb k 0) || not (free (k - 1))) begun).1 in
+    unnegated (free (k - 1)) (sym (ap (λ (x : Bool). x || not (free (k - 1))) test) ∙ second)
 
 -- a later run begins behind an earlier one's end
 behind : (free : ℕ → Bool) (n k m : ℕ) → IsRun free n k → IsRun free n m → k < m → k + run_len free n k ≤ m
@@ -81,8 +96,8 @@ starts_of free n = filter (begins free) (range_with_len 0 n)
 start_is : (free : ℕ → Bool) (n j : ℕ) → j < length (starts_of free n) → IsRun free n (get_or (starts_of free n) j 0)
 start_is free n j lt = record {
   there = All-filter (begins free) (λ k. k < n) (range_with_len 0 n) (λ i d there.
-    let inside : i < n = omega (arith, there, length-range_with_len 0 n) in
-    let at = get_or-range_with_len 0 n i d inside in omega (arith, at)) j 0 lt;
+      let inside : i < n = omega (arith, there, length-range_with_len 0 n) in
+      let at = get_or-range_with_len 0 n i d inside in omega (arith, at)) j 0 lt;
   begun = filter_passes (begins free) (range_with_len 0 n) j 0 lt;
 }
 
@@ -122,15 +137,15 @@ whole_clear design subrow node from (suc n) valid each = by_rest (whole_clear de
       let start = narrower design.pitch from (from + n) valid.pitch_sign (omega arith) in
       let last : blocks node (sites_rectangle design subrow (from + n) 1) ≡ false = each (from + n) (omega arith) (omega arith) in
       by_lt (node_rectangle node) (subrow.x +ℤ pos (from + n) *ℤ design.pitch) m fixed end start rest last) where
-    by_lt : (a : Rectangle) (mid : ℤ) → Meet (node_rectangle node) (sites_rectangle design subrow from (suc n)) → node.fixed ≡ true
-        → (pos (from + suc n) *ℤ design.pitch) ≡ pos ((from + n) + 1) *ℤ design.pitch → Narrower design.pitch from (from + n)
-        → blocks node (sites_rectangle design subrow from n) ≡ false → blocks node (sites_rectangle design subrow (from + n) 1) ≡ false
-        → blocks node (sites_rectangle design subrow from (suc n)) ≡ false
-    by_lt a mid m fixed end start rest last = by_lt_z (int_max node.x (subrow.x +ℤ pos from *ℤ design.pitch)) (int_min (node.x +ℤ node.width) (subrow.x +ℤ pos (from + n) *ℤ design.pitch))
-      (λ left. absurd (clash _ (of_meet node (sites_rectangle design subrow from n) fixed (record { columns = left; rows = m.rows })) rest))
-      (λ right. absurd (clash _ (of_meet node (sites_rectangle design subrow (from + n) 1) fixed (record { columns = omega (arith, ints, clamps, right, m.columns, end, start.most); rows = m.rows })) last)) where
-      clash : (b : Bool) → b ≡ true → b ≡ false → ⊥
-      clash b t f = cc
+        by_lt : (a : Rectangle) (mid : ℤ) → Meet (node_rectangle node) (sites_rectangle design subrow from (suc n)) → node.fixed ≡ true
+            → (pos (from + suc n) *ℤ design.pitch) ≡ pos ((from + n) + 1) *ℤ design.pitch → Narrower design.pitch from (from + n)
+            → blocks node (sites_rectangle design subrow from n) ≡ false → blocks node (sites_rectangle design subrow (from + n) 1) ≡ false
+            → blocks node (sites_rectangle design subrow from (suc n)) ≡ false
+        by_lt a mid m fixed end start rest last = by_lt_z (int_max node.x (subrow.x +ℤ pos from *ℤ design.pitch)) (int_min (node.x +ℤ node.width) (subrow.x +ℤ pos (from + n) *ℤ design.pitch))
+            (λ left. absurd (clash _ (of_meet node (sites_rectangle design subrow from n) fixed (record { columns = left; rows = m.rows })) rest))
+            (λ right. absurd (clash _ (of_meet node (sites_rectangle design subrow (from + n) 1) fixed (record { columns = omega (arith, ints, clamps, right, m.columns, end, start.most); rows = m.rows })) last)) where
+              clash : (b : Bool) → b ≡ true → b ≡ false → ⊥
+              clash b t f = cc
 
 -- ---- where a segment stands
 
@@ -161,20 +176,20 @@ locate_two f [] r s e d less lt = absurd (omega arith)
 locate_two f (x ∷ xs) r s e d less lt =
     by_place (cases_lt r (length (f x))) (cases_lt s (length (f x))) (λ more. locate f xs (s - length (f x)) e d (omega (arith, lt, more, length-append (f x) (flat_map f xs))))
     (λ more. locate_two f xs (r - length (f x)) (s - length (f x)) e d (omega arith) (omega (arith, lt, more, length-append (f x) (flat_map f xs)))) where
-  here : (i : ℕ) → i < length (f x) → Located f (x ∷ xs) i e d
-  here i lt = record { t = 0; there = omega arith; j = i; inside = lt; is = get_or_append_left (f x) (flat_map f xs) d i lt }
+      here : (i : ℕ) → i < length (f x) → Located f (x ∷ xs) i e d
+      here i lt = record { t = 0; there = omega arith; j = i; inside = lt; is = get_or_append_left (f x) (flat_map f xs) d i lt }
 
-  on : (i : ℕ) → length (f x) ≤ i → Located f xs (i - length (f x)) e d → Located f (x ∷ xs) i e d
-  on i more found = record { t = suc found.t; there = omega (arith, found.there); j = found.j; inside = found.inside; is = get_or-append_right (f x) (flat_map f xs) (length (f x)) i d refl more ∙ found.is }
+      on : (i : ℕ) → length (f x) ≤ i → Located f xs (i - length (f x)) e d → Located f (x ∷ xs) i e d
+      on i more found = record { t = suc found.t; there = omega (arith, found.there); j = found.j; inside = found.inside; is = get_or-append_right (f x) (flat_map f xs) (length (f x)) i d refl more ∙ found.is }
 
-  by_place : (r < length (f x)) ⊎ (length (f x) ≤ r) → (s < length (f x)) ⊎ (length (f x) ≤ s) → (length (f x) ≤ s → Located f xs (s - length (f x)) e d)
-      → (length (f x) ≤ r → TwoLocated f xs (r - length (f x)) (s - length (f x)) e d) → TwoLocated f (x ∷ xs) r s e d
-  by_place (inl a) (inl b) one two = record { first = here r a; second = here s b; order = inr (refl, less) }
-  by_place (inl a) (inr b) one two = record { first = here r a; second = on s b (one b); order = inl (omega arith) }
-  by_place (inr a) (inl b) one two = absurd (omega arith)
-  by_place (inr a) (inr b) one two =
-      let both = two a in
-      record { first = on r a both.first; second = on s b both.second; order = elim both.order [ inl before ↦ inl (omega (arith, before)) | inr same ↦ inr (ap suc same.0, same.1) ] }
+      by_place : (r < length (f x)) ⊎ (length (f x) ≤ r) → (s < length (f x)) ⊎ (length (f x) ≤ s) → (length (f x) ≤ s → Located f xs (s - length (f x)) e d)
+          → (length (f x) ≤ r → TwoLocated f xs (r - length (f x)) (s - length (f x)) e d) → TwoLocated f (x ∷ xs) r s e d
+      by_place (inl a) (inl b) one two = record { first = here r a; second = here s b; order = inr (refl, less) }
+      by_place (inl a) (inr b) one two = record { first = here r a; second = on s b (one b); order = inl (omega arith) }
+      by_place (inr a) (inl b) one two = absurd (omega arith)
+      by_place (inr a) (inr b) one two =
+          let both = two a in
+          record { first = on r a both.first; second = on s b both.second; order = elim both.order [ inl before ↦ inl (omega (arith, before)) | inr same ↦ inr (ap suc same.0, same.1) ] }
 
 -- ---- a segment by its subrow and its first site
 
@@ -195,10 +210,6 @@ at_start design s found =
     let starts = starts_of (is_free design subrow) subrow.sites in
     let inside : found.j < length starts = omega (arith, found.inside, length-map starts (segment_from design subrow)) in
     record { there = found.there; run = start_is (is_free design subrow) subrow.sites found.j inside; is = found.is ∙ get_or-map (segment_from design subrow) starts found.j 0 none inside }
-
-node_clear : (b : Bool) → not b ≡ true → b ≡ false
-node_clear true h = sym h
-node_clear false h = refl
 
 abbrev rectangle : ℤ → ℤ → ℤ → ℤ → Rectangle
 rectangle left right lower upper = record { left = left; right = right; lower = lower; upper = upper }
@@ -224,28 +235,30 @@ clear_at design segment t k valid at =
       within = omega (arith, sites, run.within);
       some = omega (arith, sites, run.some);
       free = λ i lt.
-        let node = node_value_at design.nodes i in
-        let whole = whole_clear design subrow node k (run_len (is_free design subrow) subrow.sites k) valid (λ site low high.
-          let none_of : list_any (λ (n : NodeValue). blocks n (sites_rectangle design subrow site 1)) design.nodes ≡ false = node_clear _ (run.clear site low high) in
+          let node = node_value_at design.nodes i in
+          let whole = whole_clear design subrow node k (run_len (is_free design subrow) subrow.sites k) valid (λ site low high.
+          let none_of : list_any (λ (n : NodeValue). blocks n (sites_rectangle design subrow site 1)) design.nodes ≡ false = unnegated _ (run.clear site low high) in
           no_by (blocks node (sites_rectangle design subrow site 1)) (λ holds. absurd (clash _ (list_any_at (λ (n : NodeValue). blocks n (sites_rectangle design subrow site 1)) design.nodes i (node_value_at [] 0) lt holds) none_of))) in
-        let ends : (segment.x +ℤ pos segment.sites *ℤ design.pitch) ≡ subrow.x +ℤ pos (k + run_len (is_free design subrow) subrow.sites k) *ℤ design.pitch
+          let ends : (segment.x +ℤ pos segment.sites *ℤ design.pitch) ≡ subrow.x +ℤ pos (k + run_len (is_free design subrow) subrow.sites k) *ℤ design.pitch
           = ap (λ (s : Segment). s.x +ℤ pos s.sites *ℤ design.pitch) at.is ∙ sum_of subrow.x design.pitch k (run_len (is_free design subrow) subrow.sites k) in
-        subst (λ (r : Rectangle). blocks node r ≡ false) (sym (same_rectangle design segment subrow k (run_len (is_free design subrow) subrow.sites k) (ap (λ (s : Segment). s.x) at.is) ends (ap (λ (s : Segment). s.y) at.is))) whole;
+          subst (λ (r : Rectangle). blocks node r ≡ false) (sym (same_rectangle design segment subrow k (run_len (is_free design subrow) subrow.sites k) (ap (λ (s : Segment). s.x) at.is) ends (ap (λ (s : Segment). s.y) at.is))) whole;
+      before = before_run (is_free design subrow) k at.run.begun;
+      behind = λ inner. ap (is_free design subrow) (ap (λ (n : ℕ). k + n) sites) ∙ run.stop (omega (arith, sites, inner));
     } where
-  clash : (b : Bool) → b ≡ true → b ≡ false → ⊥
-  clash b t f = cc
+      clash : (b : Bool) → b ≡ true → b ≡ false → ⊥
+      clash b t f = cc
 
-  sum_of : (x p : ℤ) (a b : ℕ) → ((x +ℤ pos a *ℤ p) +ℤ pos b *ℤ p) ≡ x +ℤ pos (a + b) *ℤ p
-  sum_of x p a b = let s = plus p a b in omega (arith, ints, s)
+      sum_of : (x p : ℤ) (a b : ℕ) → ((x +ℤ pos a *ℤ p) +ℤ pos b *ℤ p) ≡ x +ℤ pos (a + b) *ℤ p
+      sum_of x p a b = let s = plus p a b in omega (arith, ints, s)
 
 -- ---- two segments
 
-record Columns (design : DesignValue) (segment : Segment) (subrow : Subrow) : Type 0 where
-  left : subrow.x ≤ℤ segment.x
-  right : (segment.x +ℤ pos segment.sites *ℤ design.pitch) ≤ℤ (subrow.x +ℤ pos subrow.sites *ℤ design.pitch)
-  some : 0 < subrow.sites
+pub record Columns (design : DesignValue) (segment : Segment) (subrow : Subrow) : Type 0 where
+  pub left : subrow.x ≤ℤ segment.x
+  pub right : (segment.x +ℤ pos segment.sites *ℤ design.pitch) ≤ℤ (subrow.x +ℤ pos subrow.sites *ℤ design.pitch)
+  pub some : 0 < subrow.sites
 
-columns : (design : DesignValue) (segment : Segment) → IsDesign design → (clear : IsClear design segment) → Columns design segment (subrow_at design.subrows clear.subrow)
+pub columns : (design : DesignValue) (segment : Segment) → IsDesign design → (clear : IsClear design segment) → Columns design segment (subrow_at design.subrows clear.subrow)
 columns design segment valid clear =
     let start = narrower design.pitch clear.from clear.from valid.pitch_sign (omega arith) in
     let most = narrower design.pitch (clear.from + segment.sites) (subrow_at design.subrows clear.subrow).sites valid.pitch_sign clear.within in
@@ -256,8 +269,8 @@ shares : (a b : Rectangle) → share_area a b ≡ true → Meet a b
 shares a b holds =
     let parts = and_parts (int_lt (int_max a.left b.left) (int_min a.right b.right)) (int_lt (int_max a.lower b.lower) (int_min a.upper b.upper)) holds in
     record { columns = less _ _ parts.0; rows = less _ _ parts.1 } where
-  less : (x y : ℤ) → int_lt x y ≡ true → x <ℤ y
-  less x y h = grind (arith, ints)
+      less : (x y : ℤ) → int_lt x y ≡ true → x <ℤ y
+      less x y h = grind (arith, ints)
 
 two_subrows : (design : DesignValue) (a b : Segment) → IsDesign design → (in_a : IsClear design a) → (in_b : IsClear design b) → in_a.subrow < in_b.subrow → share_area (segment_rectangle design a) (segment_rectangle design b) ≡ false
 two_subrows design a b valid in_a in_b less = no_by (share_area (segment_rectangle design a) (segment_rectangle design b)) (λ holds.
@@ -298,19 +311,19 @@ unfolding clear_at locate_two
 clear_segments design valid = record {
   each = λ s lt. let found = locate (segments_in design) design.subrows s (subrow_at [] 0) none lt in clear_at design (segment_at (segments_of design).segments s) found.t (start_at design found.t found.j) valid (at_start design s found);
   apart = λ r s less lt.
-    let two = locate_two (segments_in design) design.subrows r s (subrow_at [] 0) none less lt in
-    let at_r = at_start design r two.first in
-    let at_s = at_start design s two.second in
-    elim two.order [
-      | inl before ↦ two_subrows design (segment_at (segments_of design).segments r) (segment_at (segments_of design).segments s) valid
-          (clear_at design (segment_at (segments_of design).segments r) two.first.t (start_at design two.first.t two.first.j) valid at_r)
-          (clear_at design (segment_at (segments_of design).segments s) two.second.t (start_at design two.second.t two.second.j) valid at_s) before
-      | inr same ↦
-          let free = is_free design (subrow_at design.subrows two.second.t) in
-          let starts = starts_of free (subrow_at design.subrows two.second.t).sites in
-          let inside : two.second.j < length starts = omega (arith, two.second.inside, length-map starts (segment_from design (subrow_at design.subrows two.second.t))) in
-          let rise = starts_rise free (subrow_at design.subrows two.second.t).sites two.first.j two.second.j same.1 inside in
-          one_subrow design (segment_at (segments_of design).segments r) (segment_at (segments_of design).segments s) two.second.t (start_at design two.second.t two.first.j) (start_at design two.second.t two.second.j) valid
-          (subst (λ t. IsAt design (segment_at (segments_of design).segments r) t (start_at design t two.first.j)) same.0 at_r) at_s rise
-    ];
+      let two = locate_two (segments_in design) design.subrows r s (subrow_at [] 0) none less lt in
+      let at_r = at_start design r two.first in
+      let at_s = at_start design s two.second in
+      elim two.order [
+        | inl before ↦ two_subrows design (segment_at (segments_of design).segments r) (segment_at (segments_of design).segments s) valid
+            (clear_at design (segment_at (segments_of design).segments r) two.first.t (start_at design two.first.t two.first.j) valid at_r)
+            (clear_at design (segment_at (segments_of design).segments s) two.second.t (start_at design two.second.t two.second.j) valid at_s) before
+        | inr same ↦
+            let free = is_free design (subrow_at design.subrows two.second.t) in
+            let starts = starts_of free (subrow_at design.subrows two.second.t).sites in
+            let inside : two.second.j < length starts = omega (arith, two.second.inside, length-map starts (segment_from design (subrow_at design.subrows two.second.t))) in
+            let rise = starts_rise free (subrow_at design.subrows two.second.t).sites two.first.j two.second.j same.1 inside in
+            one_subrow design (segment_at (segments_of design).segments r) (segment_at (segments_of design).segments s) two.second.t (start_at design two.second.t two.first.j) (start_at design two.second.t two.second.j) valid
+            (subst (λ t. IsAt design (segment_at (segments_of design).segments r) t (start_at design t two.first.j)) same.0 at_r) at_s rise
+      ];
 }

@@ -5,7 +5,7 @@ use Rattle.std.specs.Int.{int_max, int_min}
 use Rattle.std.proofs.lemmas.Int.{ints}
 use Rattle.std.proofs.lemmas.Bool.{and_parts}
 use Rattle.book_design.specs.Values.{NodeValue}
-use Rattle.row_space.specs.Rectangles.{Rectangle, node_rectangle, blocks}
+use Rattle.row_space.specs.Rectangles.{Rectangle, share_area, node_rectangle, blocks}
 
 lt_of : (x y : ℤ) → int_lt x y ≡ true → x <ℤ y
 lt_of x y h = grind (arith, ints)

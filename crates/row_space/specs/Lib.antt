@@ -3,3 +3,4 @@ pub mod Rectangles
 pub mod Runs
 pub mod Clear
 pub mod Ends
+pub mod Forms

@@ -1,5 +1,5 @@
 -- Segments: the maximal runs of free sites of the subrows.
-use Rattle.std.specs.Prelude.{◌≡◌, ℕ, ◌+◌, ◌-◌, ◌<◌, ◌≤◌, ◌==◌, Bool, true, false, not, ◌&&◌, ◌||◌, List, map, flat_map, ℤ, pos, ◌+ℤ◌, ◌*ℤ◌}
+use Rattle.std.specs.Prelude.{ℕ, ◌-◌, ◌==◌, Bool, not, ◌&&◌, ◌||◌, List, map, flat_map, pos, ◌+ℤ◌, ◌*ℤ◌}
 use Rattle.std.specs.List.{filter, list_any, prefix_len, range_with_len}
 use Rattle.book_design.specs.declared.parts.Subrow.{Subrow}
 use Rattle.book_design.specs.Values.{DesignValue}
@@ -28,7 +28,3 @@ segments_in design subrow = map (segment_from design subrow) (filter (begins (is
 
 abbrev pub segments_of : DesignValue → SegmentsValue
 segments_of design = record { pitch = design.pitch; segments = flat_map (segments_in design) design.subrows }
-
--- the segments of the runs that begin at one of so many sites from one on
-abbrev pub segments_from : DesignValue → Subrow → ℕ → ℕ → List Segment
-segments_from design subrow k n = map (segment_from design subrow) (filter (begins (is_free design subrow)) (range_with_len k n))

@@ -4,8 +4,7 @@ ghost use Rattle.book_design.specs.Values.{DesignValue};
 ghost use Rattle.book_design.specs.WellFormed.{IsDesign};
 ghost use Rattle.row_space.specs.Clear.{AreClear};
 
-/// A law: no fixed node shares area with a segment of a design, and no two segments do.
+/// A law: no fixed node shares area with a segment of a design, no two segments do, and none could be longer.
 pub fn clear_segments()
-    ensures { (design : DesignValue) → IsDesign design → AreClear design }
-{
-}
+    ensures clear { (design : DesignValue) → IsDesign design → AreClear design }
+{}
