@@ -1,14 +1,10 @@
--- What is answered: seats as picks, and the refusal.
+-- What is answered where not all cells have places.
 use Rattle.std.specs.Prelude.{◌≡◌, ℕ, ◌<◌}
 use Rattle.row_space.specs.Values.{SegmentsValue}
-use Rattle.row_legal.specs.declared.picking.Seat.{Seat}
 use Rattle.row_legal.specs.declared.fault.LegalError.{LegalError}
 use Rattle.row_legal.specs.declared.fault.LegalError.TheVariants.{NoRoom, Memory}
 use Rattle.row_legal.specs.Cells.{CellsValue, sites_at}
-use Rattle.row_legal.specs.Greedy.{Pick, IsStuck}
-
-abbrev pub pick_of : Seat → Pick
-pick_of seat = record { cell = seat.cell; segment = seat.segment }
+use Rattle.row_legal.specs.Greedy.{IsStuck}
 
 -- The rule ends at the cell, with its sites and the largest room left, which is less.
 pub record HasNoRoom (rows : SegmentsValue) (cells : CellsValue) (cell sites largest : ℕ) : Type 0 where

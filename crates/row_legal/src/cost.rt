@@ -2,7 +2,7 @@
 
 ghost use Rattle.std.specs.Prelude.{◌≡◌, ◌≤◌, ◌^◌, ◌*◌, pos, ◌≤ℤ◌};
 ghost use Rattle.row_space.specs.Ends.{IsGoodSegment};
-ghost use Rattle.row_legal.specs.Ranges.{IsGoodTurn};
+ghost use Rattle.row_legal.specs.Forms.Turns.{IsGoodTurn};
 ghost use Rattle.row_legal.specs.Cost.{cost_of, last_left};
 
 use crate::turns::Turn;

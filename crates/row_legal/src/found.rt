@@ -3,8 +3,8 @@
 ghost use Rattle.std.specs.Prelude.{◌≡◌, ◌<◌, ◌≤◌, ℕ, length, slice_index};
 ghost use Rattle.row_space.specs.Values.{segment_at};
 ghost use Rattle.row_space.specs.Ends.{IsGoodSegment, AreGoodSegments};
-ghost use Rattle.row_legal.specs.Ranges.{IsGoodTurn};
-ghost use Rattle.row_legal.specs.Search.{Fits, IsFit, IsNoLater, cost_at, AreRooms};
+ghost use Rattle.row_legal.specs.Forms.Turns.{IsGoodTurn};
+ghost use Rattle.row_legal.specs.Forms.Search.{Fits, IsFit, IsNoLater, cost_at, AreRooms};
 
 use crate::cost::cost;
 use crate::turns::Turn;

@@ -2,9 +2,9 @@
 
 ghost use Rattle.std.specs.Prelude.{◌≡◌, ◌<◌, ◌≤◌, ◌-◌, ◌^◌, ◌↔◌, ℕ, length, slice_index, IfOk, IsTrue, IsSomeAnd, ◌-ℤ◌, ◌<ℤ◌, ◌≤ℤ◌, unsigned_abs};
 ghost use Rattle.row_space.specs.Ends.{AreGoodSegments};
-ghost use Rattle.row_legal.specs.Ranges.{IsGoodTurn};
-ghost use Rattle.row_legal.specs.Search.{IsNearest, IsSearched, AreRooms};
-ghost use Rattle.row_legal.specs.Lanes.{AreLanes, AreInOrder, AreFull, lane_at};
+ghost use Rattle.row_legal.specs.Forms.Turns.{IsGoodTurn};
+ghost use Rattle.row_legal.specs.Forms.Search.{IsNearest, IsSearched, AreRooms};
+ghost use Rattle.row_legal.specs.Forms.Lanes.{AreLanes, AreInOrder, AreFull, lane_at};
 
 use crate::found::{Found, Rows, better};
 use crate::turns::Turn;

@@ -6,14 +6,16 @@ ghost use Rattle.row_legal.specs.Places.{IsLegalised};
 ghost use Rattle.row_legal.specs.Answers.{IsRefusal};
 
 use crate::fault::LegalError;
+use crate::greedy::greedy_choices;
 use crate::parts::Wish;
+use crate::placing::place_all;
 use crate::sites::Sites;
 use row_space::Segments;
 use std::alloc::Global;
 
 /// The places of cells by the greedy rule, one for each, or the first cell for which no segment has the room.
 pub fn legalise(
-    _alloc: Global,
+    alloc: Global,
     segments: &Segments,
     sites: &[u64],
     wishes: &[Wish],
@@ -24,5 +26,7 @@ pub fn legalise(
         (IsLegalised segments.now (cells_of sites.now wishes.now))
         (IsRefusal segments.now (cells_of sites.now wishes.now)) }
 {
-    Err(LegalError::Memory)
+    let choices = greedy_choices(alloc, segments, sites, wishes)?;
+    let places = place_all(alloc, segments.as_slice(), segments.pitch(), &choices)?;
+    Ok(Sites::new(places))
 }

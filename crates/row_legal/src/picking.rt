@@ -2,8 +2,8 @@
 
 ghost use Rattle.std.specs.Prelude.{◌≡◌, length, map, IfOk, MatchResult};
 ghost use Rattle.row_space.specs.Ends.{AreGoodSegments};
-ghost use Rattle.row_legal.specs.Ranges.{AreGoodTurns};
-ghost use Rattle.row_legal.specs.Seats.{AreSeats, IsStop, IsNoRoom};
+ghost use Rattle.row_legal.specs.Forms.Turns.{AreGoodTurns};
+ghost use Rattle.row_legal.specs.Forms.Choices.{AreChosen, IsStop, IsNoRoom};
 
 use crate::fault::LegalError;
 use crate::found::Rows;
@@ -12,31 +12,32 @@ use crate::turns::Turn;
 use row_space::Segment;
 use std::alloc::{AllocError, Global};
 
-/// A cell with its segment: where it wishes its left edge, its number, and how many sites it takes.
+/// A cell with the segment that it goes to. Where it wishes its left edge, its number, and how many sites it takes. Choices
+/// are in the order of their fields: those of a segment from left to right.
 #[derive(Clone, Copy, Debug, PartialEq, Eq, PartialOrd, Ord)]
-pub(crate) struct Seat {
-    pub segment: usize,
+pub(crate) struct Choice {
     pub x: i64,
     pub cell: u32,
+    pub segment: usize,
     pub sites: u64,
 }
 
-/// Seats the cells, each in its turn, or tells the first for which no segment has the room.
-pub(crate) fn seat_all(
+/// The choices of the cells, each in its turn, or the first cell for which no segment has the room.
+pub(crate) fn choose_all(
     alloc: Global,
     segments: &[Segment],
     pitch: i64,
     turns: &[Turn],
-) -> Result<Vec<Seat>, LegalError>
+) -> Result<Vec<Choice>, LegalError>
     requires good { AreGoodSegments pitch segments.now }
     requires turns { AreGoodTurns turns.now }
     ensures { MatchResult result
-        (λ seats. AreSeats pitch segments.now turns.now seats.items × (length seats.items ≡ length turns.now))
+        (λ choices. AreChosen pitch segments.now turns.now choices.items × (length choices.items ≡ length turns.now))
         (IsStop pitch segments.now turns.now) }
 {
     let mut rooms = full_rooms(alloc, segments)?;
     let lanes = lanes(alloc, segments)?;
-    let mut seats = Vec::new(alloc);
+    let mut choices = Vec::with_capacity(alloc, turns.len())?;
     for turn in turns {
         let rows = Rows {
             segments,
@@ -47,17 +48,17 @@ pub(crate) fn seat_all(
             return Err(no_room(turn, &rooms));
         };
         rooms[segment] -= turn.sites.0;
-        seats.push(Seat {
-            segment,
+        choices.push(Choice {
             x: turn.x,
             cell: turn.cell,
+            segment,
             sites: turn.sites.0,
         })?;
     }
-    Ok(seats)
+    Ok(choices)
 }
 
-/// The room of each segment before any cell is seated.
+/// The room of each segment before any cell is taken.
 fn full_rooms(alloc: Global, segments: &[Segment]) -> Result<Vec<u64>, AllocError>
     ensures { IfOk result (λ rooms. rooms.items ≡ map (λ segment. segment.sites) segments.now) }
 {

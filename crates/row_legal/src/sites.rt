@@ -19,6 +19,12 @@ impl Model for Sites {
 }
 
 impl Sites {
+    pub(crate) fn new(places: Vec<Place>) -> Sites
+        ensures { result ≡ places.items }
+    {
+        Sites { places }
+    }
+
     /// The places in the order of the cells.
     pub fn as_slice(&self) -> &[Place]
         ensures { result.now ≡ self.now }
