@@ -1,4 +1,4 @@
-use crate::{
+use book_text::{
     Micro, NumberFault, Span, coordinate_of, count_lines, micro_of, next_line, next_word,
     put_micro, read_micro, read_whole,
 };
