@@ -1,6 +1,6 @@
 ghost use Rattle.std.specs.Prelude.{◌<◌, ◌≤◌, All, vec_len};
 
-use crate::{ReachError, Web, reach};
+use pad_reach::{ReachError, Web, reach};
 use std::alloc::{AllocError, Global};
 use std::test::Fail;
 
