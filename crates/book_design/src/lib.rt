@@ -34,6 +34,3 @@ pub use laws::one_join;
 pub use parts::{Core, Net, Node, Pin, Subrow};
 pub use pins::PinList;
 pub use rules::{MOST_NET_WEIGHT, MOST_NODES, MOST_PINS, MOST_SITES, MOST_SUBROWS, ROWS_END};
-
-#[cfg(test)]
-mod tests;

@@ -3,4 +3,14 @@
 #![tactic(auto)]
 
 #[cfg(test)]
+mod design;
+#[cfg(test)]
+mod files;
+#[cfg(test)]
+mod loading;
+#[cfg(test)]
+mod outer;
+#[cfg(test)]
+mod stuttering;
+#[cfg(test)]
 mod text;

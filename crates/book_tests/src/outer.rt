@@ -1,7 +1,7 @@
 ghost use Rattle.std.specs.Prelude.{◌<◌, length, IfOk};
 ghost use Rattle.book_outer.specs.Files.{AreNamesDistinct};
 
-use crate::{
+use book_outer::{
     Calls, CalmFolder, CalmSink, Files, Folder, HostFolder, MemFolder, MemSink, Sink, StdSink,
     Trouble, Words,
 };

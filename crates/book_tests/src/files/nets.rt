@@ -1,5 +1,5 @@
-use super::{Faulty, fault_of, is_same};
-use crate::{TextFault, TextKind, read_nets};
+use super::{Faulty, is_same};
+use book_files::{Name, NetBlock, PinLine, TextKind, read_nets};
 use book_text::Micro;
 
 /// A pin's line, node and offset.
@@ -63,31 +63,42 @@ const NETS: [(&[u8], &[NetRow]); 5] = [
     ),
 ];
 
+fn are_pins(lines: &[PinLine<'_>], rows: &[PinRow]) -> bool {
+    for (line, (number, node, dx, dy)) in lines.iter().zip(rows) {
+        let is_placed = (line.line, line.dx, line.dy) == (*number, Micro(*dx), Micro(*dy));
+        if !(is_placed && is_same(line.node.0, node)) {
+            return false;
+        }
+    }
+    lines.len() == rows.len()
+}
+
+fn is_named(found: Option<Name<'_>>, expected: Option<&[u8]>) -> bool {
+    match (found, expected) {
+        (Some(found), Some(expected)) => is_same(found.0, expected),
+        (found, expected) => found.is_none() && expected.is_none(),
+    }
+}
+
+fn are_nets(blocks: &[NetBlock<'_>], rows: &[NetRow]) -> bool {
+    for (block, (name, pins)) in blocks.iter().zip(rows) {
+        if !(is_named(block.name, *name) && are_pins(block.pins.as_slice(), pins)) {
+            return false;
+        }
+    }
+    blocks.len() == rows.len()
+}
+
 #[test]
 fn nets_files_are_read(rt: HostRuntime) {
     for (text, nets) in NETS {
         let file = read_nets(rt.alloc(), text).expect(&rt, "a nets file");
-        let blocks = file.as_slice();
-        assert_eq!(rt; blocks.len(), nets.len(), "of {text:?}");
-        for (block, (name, pins)) in blocks.iter().zip(nets) {
-            let is_named = match (block.name, *name) {
-                (Some(found), Some(expected)) => is_same(found.0, expected),
-                (found, expected) => found.is_none() && expected.is_none(),
-            };
-            assert!(rt; is_named, "of {text:?}");
-            let lines = block.pins.as_slice();
-            assert_eq!(rt; lines.len(), pins.len(), "of {text:?}");
-            for (line, (number, node, dx, dy)) in lines.iter().zip(*pins) {
-                assert_eq!(rt; line.line, *number);
-                assert!(rt; is_same(line.node.0, node), "of {text:?}");
-                assert_eq!(rt; (line.dx, line.dy), (Micro(*dx), Micro(*dy)));
-            }
-        }
+        assert!(rt; are_nets(file.as_slice(), nets), "{text:?}");
     }
 }
 
 /// Faults of the header, of the count lines and of the lines that start a net.
-const FAULTY_STARTS: [Faulty; 27] = [
+pub const FAULTY_STARTS: [Faulty; 27] = [
     (b"", 1, TextKind::BadHeader),
     (b"# nothing\n\n", 3, TextKind::BadHeader),
     (b"UCLA nodes 1.0\n", 1, TextKind::BadHeader),
@@ -150,7 +161,7 @@ const FAULTY_STARTS: [Faulty; 27] = [
 ];
 
 /// Faults of the lines of pins.
-const FAULTY_PINS: [Faulty; 18] = [
+pub const FAULTY_PINS: [Faulty; 18] = [
     (b"UCLA nets 1.0\na B\n", 2, TextKind::BadLine),
     (b"UCLA nets 1.0\na B : x y\n", 2, TextKind::BadLine),
     (b"UCLA nets 1.0\nNetDegree : 2\na N\n", 3, TextKind::BadLine),
@@ -232,7 +243,7 @@ const FAULTY_PINS: [Faulty; 18] = [
 ];
 
 /// Faults that are seen at the end.
-const FAULTY_ENDS: [Faulty; 11] = [
+pub const FAULTY_ENDS: [Faulty; 11] = [
     (
         b"UCLA nets 1.0\nNumNets : 2\nNumPins : 4\nNetDegree : 2 n0\nl B\na B\n\
             NetDegree : 2 n1\na B\n",
@@ -286,13 +297,3 @@ const FAULTY_ENDS: [Faulty; 11] = [
         TextKind::CountMismatch { told: 1, found: 0 },
     ),
 ];
-
-#[test]
-fn nets_files_have_first_faults(rt: HostRuntime) {
-    let ends = FAULTY_ENDS.iter();
-    for (text, line, kind) in FAULTY_STARTS.iter().chain(&FAULTY_PINS).chain(ends) {
-        let fault = fault_of(read_nets(rt.alloc(), text));
-        let (line, kind) = (*line, *kind);
-        assert_eq!(rt; fault, Some(TextFault { line, kind }), "of {text:?}");
-    }
-}

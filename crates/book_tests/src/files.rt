@@ -1,14 +1,33 @@
+//! Tests of the readers of files: texts with what they read as, and texts with their first faults.
+
 mod nets;
 mod rows;
 
-use crate::{Orient, ReadError, TextFault, TextKind, read_aux, read_nodes, read_pl, read_wts};
+use book_files::{
+    FileKind, NodeLine, Orient, PlaceLine, ReadError, TextFault, TextKind, WeightLine, read_aux,
+    read_nets, read_nodes, read_pl, read_scl, read_wts,
+};
 use book_text::Micro;
+use std::alloc::{AllocError, Global};
+use std::test::Fail;
 
 /// Why nothing was read, if it is a fault of the text.
 fn fault_of<T: Drop>(read: Result<T, ReadError>) -> Option<TextFault> {
     match read {
         Err(ReadError::Fault(fault)) => Some(fault),
         _ => None,
+    }
+}
+
+/// The first fault of a text of that kind, if it has one.
+fn fault_in(alloc: Global, kind: FileKind, text: &[u8]) -> Option<TextFault> {
+    match kind {
+        FileKind::Aux => fault_of(read_aux(alloc, text)),
+        FileKind::Nodes => fault_of(read_nodes(alloc, text)),
+        FileKind::Nets => fault_of(read_nets(alloc, text)),
+        FileKind::Wts => fault_of(read_wts(alloc, text)),
+        FileKind::Pl => fault_of(read_pl(alloc, text)),
+        FileKind::Scl => fault_of(read_scl(alloc, text)),
     }
 }
 
@@ -56,17 +75,22 @@ const NODES: [(&[u8], &[NodeRow]); 4] = [
     (b"UCLA nodes 1.0\nNumNodes : 0", &[]),
 ];
 
+fn are_nodes(lines: &[NodeLine<'_>], rows: &[NodeRow]) -> bool {
+    for (line, (number, name, width, height, fixed)) in lines.iter().zip(rows) {
+        let is_sized = (line.width, line.height) == (Micro(*width), Micro(*height));
+        let is_placed = (line.line, line.fixed) == (*number, *fixed);
+        if !(is_sized && is_placed && is_same(line.name.0, name)) {
+            return false;
+        }
+    }
+    lines.len() == rows.len()
+}
+
 #[test]
 fn nodes_files_are_read(rt: HostRuntime) {
     for (text, nodes) in NODES {
         let file = read_nodes(rt.alloc(), text).expect(&rt, "a nodes file");
-        let lines = file.as_slice();
-        assert_eq!(rt; lines.len(), nodes.len(), "of {text:?}");
-        for (line, (number, name, width, height, fixed)) in lines.iter().zip(nodes) {
-            assert_eq!(rt; (line.line, line.fixed), (*number, *fixed));
-            assert!(rt; is_same(line.name.0, name), "of {text:?}");
-            assert_eq!(rt; (line.width, line.height), (Micro(*width), Micro(*height)));
-        }
+        assert!(rt; are_nodes(file.as_slice(), nodes), "{text:?}");
     }
 }
 
@@ -139,14 +163,6 @@ const FAULTY_NODES: [Faulty; 30] = [
     (b"UCLA nodes 1.0\nUCLA nodes 1.0\n", 2, TextKind::BadNumber),
 ];
 
-#[test]
-fn nodes_files_have_first_faults(rt: HostRuntime) {
-    for (text, line, kind) in FAULTY_NODES {
-        let fault = fault_of(read_nodes(rt.alloc(), text));
-        assert_eq!(rt; fault, Some(TextFault { line, kind }), "of {text:?}");
-    }
-}
-
 /// A weight's name and millionths.
 type WeightRow = (&'static [u8], i64);
 
@@ -161,16 +177,20 @@ const WEIGHTS: [(&[u8], &[WeightRow]); 4] = [
     ),
 ];
 
+fn are_weights(lines: &[WeightLine<'_>], rows: &[WeightRow]) -> bool {
+    for (line, (name, weight)) in lines.iter().zip(rows) {
+        if !(line.weight == Micro(*weight) && is_same(line.name.0, name)) {
+            return false;
+        }
+    }
+    lines.len() == rows.len()
+}
+
 #[test]
 fn weights_files_are_read(rt: HostRuntime) {
     for (text, weights) in WEIGHTS {
         let file = read_wts(rt.alloc(), text).expect(&rt, "a weights file");
-        let lines = file.as_slice();
-        assert_eq!(rt; lines.len(), weights.len(), "of {text:?}");
-        for (line, (name, weight)) in lines.iter().zip(weights) {
-            assert!(rt; is_same(line.name.0, name), "of {text:?}");
-            assert_eq!(rt; line.weight, Micro(*weight));
-        }
+        assert!(rt; are_weights(file.as_slice(), weights), "{text:?}");
     }
 }
 
@@ -189,14 +209,6 @@ const FAULTY_WEIGHTS: [Faulty; 9] = [
     ),
     (b"UCLA wts 1.0\nn0: 2\n", 2, TextKind::BadNumber),
 ];
-
-#[test]
-fn weights_files_have_first_faults(rt: HostRuntime) {
-    for (text, line, kind) in FAULTY_WEIGHTS {
-        let fault = fault_of(read_wts(rt.alloc(), text));
-        assert_eq!(rt; fault, Some(TextFault { line, kind }), "of {text:?}");
-    }
-}
 
 /// A place's line, name, coordinates, orientation, and whether it is fixed.
 type PlaceRow = (u64, &'static [u8], i64, i64, Orient, bool);
@@ -240,18 +252,22 @@ const PLACES: [(&[u8], &[PlaceRow]); 3] = [
     ),
 ];
 
+fn are_places(lines: &[PlaceLine<'_>], rows: &[PlaceRow]) -> bool {
+    for (line, (number, name, x, y, orient, fixed)) in lines.iter().zip(rows) {
+        let is_placed = (line.x, line.y, line.orient) == (Micro(*x), Micro(*y), *orient);
+        let is_marked = (line.line, line.fixed) == (*number, *fixed);
+        if !(is_placed && is_marked && is_same(line.name.0, name)) {
+            return false;
+        }
+    }
+    lines.len() == rows.len()
+}
+
 #[test]
 fn placement_files_are_read(rt: HostRuntime) {
     for (text, places) in PLACES {
         let file = read_pl(rt.alloc(), text).expect(&rt, "a placement file");
-        let lines = file.as_slice();
-        assert_eq!(rt; lines.len(), places.len(), "of {text:?}");
-        for (line, (number, name, x, y, orient, fixed)) in lines.iter().zip(places) {
-            assert_eq!(rt; (line.line, line.fixed), (*number, *fixed));
-            assert!(rt; is_same(line.name.0, name), "of {text:?}");
-            assert_eq!(rt; (line.x, line.y), (Micro(*x), Micro(*y)));
-            assert_eq!(rt; line.orient, *orient);
-        }
+        assert!(rt; are_places(file.as_slice(), places), "{text:?}");
     }
 }
 
@@ -286,14 +302,6 @@ const FAULTY_PLACES: [Faulty; 20] = [
     ),
 ];
 
-#[test]
-fn placement_files_have_first_faults(rt: HostRuntime) {
-    for (text, line, kind) in FAULTY_PLACES {
-        let fault = fault_of(read_pl(rt.alloc(), text));
-        assert_eq!(rt; fault, Some(TextFault { line, kind }), "of {text:?}");
-    }
-}
-
 /// The names of the nodes, nets, placement and rows files, and of the weights file.
 type Names = ([&'static str; 4], Option<&'static str>);
 
@@ -320,8 +328,8 @@ const AUX: [(&[u8], Names); 3] = [
 fn aux_files_are_read(rt: HostRuntime) {
     for (text, (names, wts)) in AUX {
         let file = read_aux(rt.alloc(), text).expect(&rt, "an aux file");
-        assert_eq!(rt; [file.nodes, file.nets, file.pl, file.scl], names);
-        assert_eq!(rt; file.wts, wts);
+        let is_read = [file.nodes, file.nets, file.pl, file.scl] == names && file.wts == wts;
+        assert!(rt; is_read, "{text:?}");
     }
 }
 
@@ -392,24 +400,46 @@ const FAULTY_AUX: [Faulty; 16] = [
     ),
 ];
 
+/// The texts of each kind of file that have a fault.
+const FAULTY: [(FileKind, &[Faulty]); 8] = [
+    (FileKind::Aux, &FAULTY_AUX),
+    (FileKind::Nodes, &FAULTY_NODES),
+    (FileKind::Nets, &nets::FAULTY_STARTS),
+    (FileKind::Nets, &nets::FAULTY_PINS),
+    (FileKind::Nets, &nets::FAULTY_ENDS),
+    (FileKind::Wts, &FAULTY_WEIGHTS),
+    (FileKind::Pl, &FAULTY_PLACES),
+    (FileKind::Scl, &rows::FAULTY_ROWS),
+];
+
 #[test]
-fn aux_files_have_first_faults(rt: HostRuntime) {
-    for (text, line, kind) in FAULTY_AUX {
-        let fault = fault_of(read_aux(rt.alloc(), text));
-        assert_eq!(rt; fault, Some(TextFault { line, kind }), "of {text:?}");
+fn faulty_files_have_first_faults(rt: HostRuntime) {
+    for (file, texts) in FAULTY {
+        for (text, line, kind) in texts {
+            let (line, kind) = (*line, *kind);
+            let fault = fault_in(rt.alloc(), file, text);
+            assert!(rt;
+                fault == Some(TextFault { line, kind }),
+                "{file:?}: {text:?}"
+            );
+        }
     }
 }
 
+fn push_words(text: &mut Vec<u8>, word: &[u8]) -> Result<(), AllocError> {
+    for _ in 0..97 {
+        text.extend_from_slice(word)?;
+    }
+    Ok(())
+}
+
 #[test]
-fn a_line_may_have_many_words(rt: HostRuntime) {
-    let mut text = b"UCLA wts 1.0".to_vec(rt.alloc()).expect(&rt, "a text");
-    for _ in 0..97 {
-        text.extend_from_slice(b" word").expect(&rt, "a text");
-    }
-    text.extend_from_slice(b"\nn 2").expect(&rt, "a text");
-    for _ in 0..97 {
-        text.extend_from_slice(b" 1").expect(&rt, "a text");
-    }
+fn a_line_may_have_many_words(rt: HostRuntime) -> Result<(), Fail> {
+    let mut text = b"UCLA wts 1.0".to_vec(rt.alloc())?;
+    push_words(&mut text, b" word")?;
+    text.extend_from_slice(b"\nn 2")?;
+    push_words(&mut text, b" 1")?;
     let file = read_wts(rt.alloc(), &text).expect(&rt, "a weights file");
-    assert_eq!(rt; file.as_slice().len(), 1);
+    assert!(rt; file.as_slice().len() == 1);
+    Ok(())
 }

@@ -1,9 +1,11 @@
 //! Joins of small designs, which are read from their texts.
 
-use crate::{Core, Design, DesignFault, JoinError, Pin, Subrow, join_design};
+use book_design::{
+    Core, Design, DesignFault, JoinError, Net, Node, Pin, Subrow, join_design, one_join,
+};
 use book_files::{FileKind, Orient, read_nets, read_nodes, read_pl, read_scl, read_wts};
 use std::alloc::{AllocError, Global};
-use std::process::Abort;
+use std::test::Fail;
 
 /// The texts of a design's files.
 #[derive(Clone, Copy)]
@@ -66,40 +68,43 @@ const B: Texts = Texts {
         SubrowOrigin : 0\tNumSites : 20\nEnd\n",
 };
 
-/// What the files of these texts make together.
-fn join<'a>(rt: &impl Abort, alloc: Global, texts: &Texts<'a>) -> Result<Design<'a>, JoinError> {
-    assert!(rt; texts.nodes.len() < TOO_LONG);
-    assert!(rt; texts.nets.len() < TOO_LONG);
-    assert!(rt; texts.scl.len() < TOO_LONG);
+/// What the files of these texts make together, where each of them is read.
+fn join<'a>(alloc: Global, texts: &Texts<'a>) -> Option<Result<Design<'a>, JoinError>> {
+    if texts.nodes.len() >= TOO_LONG
+        || texts.nets.len() >= TOO_LONG
+        || texts.scl.len() >= TOO_LONG
+    {
+        return None;
+    }
     let Ok(nodes) = read_nodes(alloc, texts.nodes) else {
-        panic!(rt; "the nodes are not read");
+        return None;
     };
     let Ok(nets) = read_nets(alloc, texts.nets) else {
-        panic!(rt; "the nets are not read");
+        return None;
     };
     let Ok(pl) = read_pl(alloc, texts.pl) else {
-        panic!(rt; "the places are not read");
+        return None;
     };
     let Ok(scl) = read_scl(alloc, texts.scl) else {
-        panic!(rt; "the rows are not read");
+        return None;
     };
     match texts.wts {
         Some(text) => {
             let Ok(wts) = read_wts(alloc, text) else {
-                panic!(rt; "the weights are not read");
+                return None;
             };
-            join_design(alloc, &nodes, &nets, Some(&wts), &pl, &scl)
+            Some(join_design(alloc, &nodes, &nets, Some(&wts), &pl, &scl))
         }
-        None => join_design(alloc, &nodes, &nets, None, &pl, &scl),
+        None => Some(join_design(alloc, &nodes, &nets, None, &pl, &scl)),
     }
 }
 
-/// The first fault of these files, if they have one.
-fn fault_of(rt: &impl Abort, alloc: Global, texts: &Texts<'_>) -> Option<DesignFault> {
-    match join(rt, alloc, texts) {
-        Ok(_) => None,
-        Err(JoinError::Fault(fault)) => Some(fault),
-        Err(JoinError::Memory) => panic!(rt; "no memory"),
+/// Whether these files make a design, or have this as their first fault.
+fn is_answered(alloc: Global, texts: &Texts<'_>, fault: Option<DesignFault>) -> bool {
+    match join(alloc, texts) {
+        Some(Ok(_)) => fault.is_none(),
+        Some(Err(JoinError::Fault(found))) => fault == Some(found),
+        _ => false,
     }
 }
 
@@ -134,79 +139,137 @@ const B_NODES: [NodeRow; 5] = [
     ),
 ];
 
-/// The node's number and the pin's offset of each pin of a net, and the net's weight.
-type NetRow = (u32, &'static [(u32, i64, i64)]);
+/// A net's weight and its pins.
+type NetRow = (u32, &'static [Pin]);
 
 const B_NETS: [NetRow; 3] = [
-    (1, &[(3, 500_000, 0), (0, -1_500_000, 0)]),
-    (1, &[(0, 0, 0), (1, 0, 0), (2, -3_000_000, 0)]),
-    (2, &[(1, 0, 0), (4, -500_000, 0)]),
+    (
+        1,
+        &[
+            Pin {
+                node: 3,
+                dx: 500_000,
+                dy: 0,
+            },
+            Pin {
+                node: 0,
+                dx: -1_500_000,
+                dy: 0,
+            },
+        ],
+    ),
+    (
+        1,
+        &[
+            Pin {
+                node: 0,
+                dx: 0,
+                dy: 0,
+            },
+            Pin {
+                node: 1,
+                dx: 0,
+                dy: 0,
+            },
+            Pin {
+                node: 2,
+                dx: -3_000_000,
+                dy: 0,
+            },
+        ],
+    ),
+    (
+        2,
+        &[
+            Pin {
+                node: 1,
+                dx: 0,
+                dy: 0,
+            },
+            Pin {
+                node: 4,
+                dx: -500_000,
+                dy: 0,
+            },
+        ],
+    ),
 ];
 
-#[test]
-fn the_parts_of_a_design_are_joined(rt: HostRuntime) {
-    let design = join(&rt, rt.alloc(), &B).expect(&rt, "design B");
-    assert_eq!(rt; design.nodes().len(), B_NODES.len());
-    for (node, (name, width, height, x, y, orient, fixed)) in design.nodes().iter().zip(&B_NODES) {
-        assert!(rt; is_same(node.name.0, name));
-        assert_eq!(rt; (node.width, node.height), (*width, *height));
-        assert_eq!(rt; (node.x, node.y), (*x, *y));
-        assert!(rt; node.orient == *orient && node.fixed == *fixed);
-    }
-    assert_eq!(rt; design.nets().len(), B_NETS.len());
-    for (net, (weight, pins)) in design.nets().iter().zip(&B_NETS) {
-        assert_eq!(rt; net.weight, *weight);
-        assert_eq!(rt; net.pins.as_slice().len(), pins.len());
-        for (pin, (node, dx, dy)) in net.pins.as_slice().iter().zip(*pins) {
-            assert!(rt;
-                *pin == Pin {
-                    node: *node,
-                    dx: *dx,
-                    dy: *dy
-                }
-            );
+const B_SUBROWS: [Subrow; 3] = [
+    Subrow {
+        row: 0,
+        x: 0,
+        y: 0,
+        sites: 20,
+    },
+    Subrow {
+        row: 1,
+        x: 0,
+        y: 12_000_000,
+        sites: 20,
+    },
+    Subrow {
+        row: 2,
+        x: 0,
+        y: 24_000_000,
+        sites: 20,
+    },
+];
+
+const B_CORE: Core = Core {
+    xlo: 0,
+    xhi: 20_000_000,
+    ylo: 0,
+    yhi: 36_000_000,
+};
+
+fn are_nodes(nodes: &[Node<'_>], rows: &[NodeRow]) -> bool {
+    for (node, (name, width, height, x, y, orient, fixed)) in nodes.iter().zip(rows) {
+        let is_sized = (node.width, node.height) == (*width, *height);
+        let is_placed = (node.x, node.y, node.orient, node.fixed) == (*x, *y, *orient, *fixed);
+        if !(is_sized && is_placed && is_same(node.name.0, name)) {
+            return false;
         }
     }
+    nodes.len() == rows.len()
 }
 
-#[test]
-fn the_rows_of_a_design_are_joined(rt: HostRuntime) {
-    let design = join(&rt, rt.alloc(), &B).expect(&rt, "design B");
-    assert_eq!(rt; design.subrows().len(), 3);
-    for (row, subrow) in (0u32..3).zip(design.subrows()) {
-        let y = i64::from(row) * 12_000_000;
-        assert!(rt;
-            *subrow
-                == Subrow {
-                    row,
-                    x: 0,
-                    y,
-                    sites: 20
-                }
-        );
+fn are_nets(nets: &[Net], rows: &[NetRow]) -> bool {
+    for (net, (weight, pins)) in nets.iter().zip(rows) {
+        if !(net.weight == *weight && net.pins.as_slice() == *pins) {
+            return false;
+        }
     }
-    let core = Core {
-        xlo: 0,
-        xhi: 20_000_000,
-        ylo: 0,
-        yhi: 36_000_000,
-    };
-    assert!(rt; design.core() == core);
-    assert_eq!(rt;
-        (design.pitch(), design.row_height()),
-        (1_000_000, 12_000_000)
-    );
+    nets.len() == rows.len()
+}
+
+/// Whether nodes 0 and 1 are the points, three and five sites wide.
+fn are_points_named(design: &Design<'_>) -> bool {
+    if design.points() != 2 || design.nodes().len() != 5 {
+        return false;
+    }
+    let named = (design.node_of(0), design.node_of(1)) == (0, 1);
+    let sized = (design.sites_of(0), design.sites_of(1)) == (3, 5);
+    let points = (design.point_of(0), design.point_of(1));
+    let none = (design.point_of(2), design.point_of(4));
+    named && sized && points == (Some(0), Some(1)) && none == (None, None)
 }
 
 #[test]
-fn the_points_of_a_design_are_named(rt: HostRuntime) {
-    let design = join(&rt, rt.alloc(), &B).expect(&rt, "design B");
-    assert_eq!(rt; design.points(), 2);
-    assert_eq!(rt; (design.node_of(0), design.node_of(1)), (0, 1));
-    assert_eq!(rt; (design.sites_of(0), design.sites_of(1)), (3, 5));
-    assert_eq!(rt; design.nodes().len(), 5);
-    assert!(rt; design.point_of(0) == Some(0) && design.point_of(1) == Some(1));
-    assert!(rt; design.point_of(2).is_none() && design.point_of(4).is_none());
+fn a_design_is_joined(rt: HostRuntime) {
+    let Some(Ok(design)) = join(rt.alloc(), &B) else {
+        panic!(rt; "design B is not joined");
+    };
+    assert!(rt; are_nodes(design.nodes(), &B_NODES));
+    assert!(rt; are_nets(design.nets(), &B_NETS));
+    assert!(rt; design.subrows() == B_SUBROWS.as_slice() && design.core() == B_CORE);
+    assert!(rt; (design.pitch(), design.row_height()) == (1_000_000, 12_000_000));
+    assert!(rt; are_points_named(&design));
+}
+
+#[test]
+fn records_have_one_join() {
+    one_join();
 }
 
 /// Texts without a fault, the weights of the two nets, and where node 0 stands, how, and whether it is fixed.
@@ -349,23 +412,31 @@ const ACCEPTED: [Accepted; 12] = [
     ),
 ];
 
+fn are_weights(nets: &[Net], weights: &[u32]) -> bool {
+    for (net, weight) in nets.iter().zip(weights) {
+        if net.weight != *weight {
+            return false;
+        }
+    }
+    nets.len() == weights.len()
+}
+
+fn is_first(nodes: &[Node<'_>], place: (i64, i64, Orient, bool)) -> bool {
+    match nodes {
+        [node, ..] => (node.x, node.y, node.orient, node.fixed) == place,
+        [] => false,
+    }
+}
+
 #[test]
 fn designs_without_a_fault_are_accepted(rt: HostRuntime) {
     for (texts, weights, x, y, orient, fixed) in &ACCEPTED {
-        let Ok(design) = join(&rt, rt.alloc(), texts) else {
+        let Some(Ok(design)) = join(rt.alloc(), texts) else {
             panic!(rt; "refused: {:?} {:?} {:?}", texts.wts, texts.pl, texts.scl);
         };
-        for (net, weight) in design.nets().iter().zip(weights) {
-            assert_eq!(rt; net.weight, *weight, "with {:?}", texts.wts);
-        }
-        for node in design.nodes().iter().take(1) {
-            assert_eq!(rt; (node.x, node.y), (*x, *y), "with {:?}", texts.pl);
-            assert!(rt;
-                node.orient == *orient && node.fixed == *fixed,
-                "with {:?}",
-                texts.pl
-            );
-        }
+        assert!(rt; are_weights(design.nets(), weights), "with {:?}", texts.wts);
+        let place = (*x, *y, *orient, *fixed);
+        assert!(rt; is_first(design.nodes(), place), "with {:?}", texts.pl);
     }
 }
 
@@ -573,38 +644,55 @@ const FAULTY: [(Texts, DesignFault); 20] = [
 #[test]
 fn the_first_fault_is_named(rt: HostRuntime) {
     for (texts, fault) in &FAULTY {
-        assert_eq!(rt; fault_of(&rt, rt.alloc(), texts), Some(*fault));
+        assert!(rt; is_answered(rt.alloc(), texts, Some(*fault)), "{fault:?}");
     }
 }
 
-/// A row with so many subrows, of which none but the first has a site.
-fn crowded_row(alloc: Global, subrows: u32) -> Result<Vec<u8>, AllocError> {
-    let mut text = Vec::new(alloc);
-    text.extend_from_slice(
-        b"UCLA scl 1.0\nNumRows : 1\nCoreRow Horizontal\nCoordinate : 0\nHeight : 10\n\
-        Sitewidth : 1\nSubrowOrigin : 0 NumSites : 10\n",
-    )?;
-    for _ in 1..subrows {
-        text.extend_from_slice(b"SubrowOrigin : 0 NumSites : 0\n")?;
+/// A text with so many lines of one kind between its first and its last ones.
+fn repeated(
+    alloc: Global,
+    first: &[u8],
+    line: &[u8],
+    count: u32,
+    last: &[u8],
+) -> Result<Vec<u8>, AllocError> {
+    let mut text = first.to_vec(alloc)?;
+    for _ in 0..count {
+        text.extend_from_slice(line)?;
     }
-    text.extend_from_slice(b"End\n")?;
+    text.extend_from_slice(last)?;
     Ok(text)
 }
 
+/// A row with one subrow that has sites.
+const CROWDED_ROW: &[u8] = b"UCLA scl 1.0\nNumRows : 1\nCoreRow Horizontal\nCoordinate : 0\n\
+    Height : 10\nSitewidth : 1\nSubrowOrigin : 0 NumSites : 10\n";
+
 #[test]
-fn subrows_without_sites_count(rt: HostRuntime) {
-    for (subrows, fault) in [
-        (65_536, None),
-        (
-            65_537,
-            Some(DesignFault::Limit {
-                kind: 3,
-                number: 65_537,
-            }),
-        ),
-    ] {
-        let scl = crowded_row(rt.alloc(), subrows).expect(&rt, "memory");
-        let texts = Texts { scl: &scl, ..A };
-        assert_eq!(rt; fault_of(&rt, rt.alloc(), &texts), fault);
+fn subrows_without_sites_count(rt: HostRuntime) -> Result<(), Fail> {
+    let too_many = DesignFault::Limit {
+        kind: 3,
+        number: 65_537,
+    };
+    let empty = b"SubrowOrigin : 0 NumSites : 0\n";
+    for (more, fault) in [(65_535, None), (65_536, Some(too_many))] {
+        let scl = repeated(rt.alloc(), CROWDED_ROW, empty, more, b"End\n")?;
+        assert!(rt; is_answered(rt.alloc(), &Texts { scl: &scl, ..A }, fault));
     }
+    Ok(())
+}
+
+/// A net of one pin more than a design may have.
+const CROWDED_NET: &[u8] =
+    b"UCLA nets 1.0\nNumNets : 1\nNumPins : 16777217\nNetDegree : 16777217 n0\n";
+
+#[test]
+fn pins_past_their_limit_are_named(rt: HostRuntime) -> Result<(), Fail> {
+    let too_many = DesignFault::Limit {
+        kind: 2,
+        number: 16_777_217,
+    };
+    let nets = repeated(rt.alloc(), CROWDED_NET, b"a\n", 16_777_217, b"")?;
+    assert!(rt; is_answered(rt.alloc(), &Texts { nets: &nets, ..A }, Some(too_many)));
+    Ok(())
 }

@@ -3,11 +3,12 @@
 ghost use Rattle.std.specs.Prelude.{IfOk};
 ghost use Rattle.book_outer.specs.Files.{AreNamesDistinct};
 
-use crate::loading::load_within;
-use crate::{LoadError, Name, Orient, PlaceLine, load, write_pl};
-use book_outer::{Calls, CalmFolder, Files, Folder, MemFolder};
+use book_files::{LoadError, MOST_BYTES, Name, Orient, PlaceLine, load, write_pl};
+use book_outer::{Calls, CalmFolder, Files, Folder, HostFolder, MemFolder};
 use book_text::{Memory, Micro};
 use std::alloc::Global;
+use std::fs;
+use std::test::Fail;
 
 fn two_files(alloc: Global) -> Result<Files, Memory>
     ensures { IfOk result AreNamesDistinct }
@@ -57,14 +58,19 @@ fn a_read_that_fails_is_named(rt: HostRuntime) {
 }
 
 #[test]
-fn a_file_with_one_byte_too_many_is_too_long(rt: HostRuntime) {
-    let mut files = Files::new(rt.alloc());
-    files.push("a", b"12345").expect(&rt, "a file");
-    let mut folder = MemFolder::new(files, Calls::new(rt.alloc()));
-    let whole = load_within(rt.alloc(), &mut folder, "a", 5).expect(&rt, "five bytes");
-    assert!(rt; whole.as_slice() == b"12345".as_slice());
-    let cut = load_within(rt.alloc(), &mut folder, "a", 4);
-    assert!(rt; matches!(cut, Err(LoadError::TooLong)));
+fn a_file_has_at_most_so_many_bytes(rt: HostRuntime) -> Result<(), Fail> {
+    let name = "book_files_long.test";
+    let file = fs::create(&rt, name)?;
+    for (bytes, expected) in [
+        (MOST_BYTES, Ok(MOST_BYTES)),
+        (MOST_BYTES + 1, Err(LoadError::TooLong)),
+    ] {
+        file.set_len(bytes as u64)?;
+        let loaded = load(rt.alloc(), &mut HostFolder::new(rt), name);
+        assert!(rt; loaded.map(|text| text.len()) == expected, "{bytes} bytes");
+    }
+    fs::remove_file(&rt, name)?;
+    Ok(())
 }
 
 #[test]
