@@ -13,7 +13,11 @@ use crate::sites::Sites;
 use row_space::Segments;
 use std::alloc::Global;
 
-/// The places of cells by the greedy rule, one for each, or the first cell for which no segment has the room.
+/// The places of cells by the greedy rule, one for each, or the first cell that is taken for which no segment has the room.
+///
+/// `sites` says how many sites each cell takes, from 1 to `MOST_CELL_SITES`, and `wishes` where it wishes its lower left
+/// corner, in Bookshelf millionths, at most `MOST_WISH` from 0; there are at most `MOST_CELLS` cells. Want of memory may
+/// come at any time.
 pub fn legalise(
     alloc: Global,
     segments: &Segments,

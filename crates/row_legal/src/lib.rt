@@ -1,4 +1,13 @@
-//! The greedy row rule: each cell in turn goes to the nearest segment with room for it.
+//! Legalization: between the solved levels and the placement file, cells go to sites of the rows.
+//!
+//! What comes in are the segments of the rows, and for each cell how many sites it takes and where it wishes its lower left
+//! corner; what goes out is for each cell a segment and the first of its sites there, or the first cell for which no segment
+//! has the room. The cells are taken by their sites, the most first, and each goes to the segment of least cost with room
+//! for it; those of a segment stand side by side in the order of their wished x. PROUD puts cells on sites otherwise: this is
+//! a greedy rule by rows, as in Tetris (D. Hill, US patent 6,370,673, 2002). It knows no design and no nets.
+//!
+//! The contract: `legalise` answers `IsLegalised`, or refuses with `HasNoRoom`, and `one_answer` says that there is one such
+//! answer.
 #![tactic(auto)]
 
 mod cost;

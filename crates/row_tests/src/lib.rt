@@ -5,4 +5,6 @@
 #![tactic(auto)]
 
 #[cfg(test)]
+mod legal;
+#[cfg(test)]
 mod segments;
