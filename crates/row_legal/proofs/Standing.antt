@@ -22,7 +22,8 @@ use Rattle.row_legal.specs.declared.parts.Place.{Place}
 use Rattle.row_legal.specs.Cells.{CellsValue, count, sites_at}
 use Rattle.row_legal.specs.Places.{place_at}
 use Rattle.row_legal.specs.Apart.{AreApart}
-use Rattle.row_legal.specs.Legal.{Spot, spot_at, cell_rectangle, IsLegalCell, IsLegal, spot_of, spots_of, AreSitesOf}
+use Rattle.row_legal.specs.Legal.{Spot, spot_at, LiesIn, subrow_rectangle, cell_rectangle, outline, IsLegalCell, IsLegal}
+use Rattle.row_legal.specs.Spots.{spot_of, spots_of, AreSitesOf}
 
 lt_of : (x y : ℤ) → int_lt x y ≡ true → x <ℤ y
 lt_of x y h = grind (arith, ints)
@@ -34,13 +35,6 @@ not_lt : (x y : ℤ) → y ≤ℤ x → int_lt x y ≡ false
 not_lt x y h = grind (arith, ints)
 
 -- ---- rectangles
-
--- a rectangle is a part of another
-record Within (r q : Rectangle) : Type 0 where
-  left : q.left ≤ℤ r.left
-  right : r.right ≤ℤ q.right
-  lower : q.lower ≤ℤ r.lower
-  upper : r.upper ≤ℤ q.upper
 
 -- two rectangles have more than an edge in common
 record Meet (a b : Rectangle) : Type 0 where
@@ -67,13 +61,13 @@ clash : (b : Bool) {A : Type 0} → b ≡ true → b ≡ false → A
 clash b t f = absurd (cc)
 
 -- what shares no area with two rectangles shares none with parts of them
-parts_apart : (a b r q : Rectangle) → Within a r → Within b q → share_area r q ≡ false → share_area a b ≡ false
+parts_apart : (a b r q : Rectangle) → LiesIn a r → LiesIn b q → share_area r q ≡ false → share_area a b ≡ false
 parts_apart a b r q in_r in_q apart = no_by (share_area a b) (λ holds.
     let m = meet_of a b holds in
     let whole : Meet r q = record { columns = omega (arith, ints, clamps, m.columns, in_r.left, in_r.right, in_q.left, in_q.right); rows = omega (arith, ints, clamps, m.rows, in_r.lower, in_r.upper, in_q.lower, in_q.upper) } in
     clash (share_area r q) (of_meet r q whole) apart)
 
-itself : (a : Rectangle) → Within a a
+itself : (a : Rectangle) → LiesIn a a
 itself a = record { left = omega (arith, ints); right = omega (arith, ints); lower = omega (arith, ints); upper = omega (arith, ints) }
 
 -- side by side
@@ -103,8 +97,12 @@ side (pos p) a b c some le =
     record { sum = omega (arith, ints); most = omega (arith, ints, wide); start = omega (arith, ints) }
 side (negsuc p) a b c some le = absurd (omega (arith, ints))
 
+-- so many sites at a spot
+abbrev sites_at_spot : DesignValue → ℕ → Spot → Rectangle
+sites_at_spot design sites spot = record { left = spot.x; right = spot.x +ℤ pos sites *ℤ design.pitch; lower = spot.y; upper = spot.y +ℤ design.row_height }
+
 cell_within : (design : DesignValue) (segment : Segment) (site w : ℕ) (spot : Spot) → pos 1 ≤ℤ design.pitch → site + w ≤ segment.sites
-    → spot.x ≡ segment.x +ℤ pos site *ℤ design.pitch → spot.y ≡ segment.y → Within (cell_rectangle design w spot) (segment_rectangle design segment)
+    → spot.x ≡ segment.x +ℤ pos site *ℤ design.pitch → spot.y ≡ segment.y → LiesIn (sites_at_spot design w spot) (segment_rectangle design segment)
 cell_within design segment site w spot some fits x y =
     let s = side design.pitch site w segment.sites some fits in
     record {
@@ -158,12 +156,12 @@ cell_of design cells places sites apart p i node =
 -- the rectangle of a cell lies within that of its segment
 in_segment : (design : DesignValue) (cells : CellsValue) (places : List Place) → IsDesign design → AreApart (segments_of design) cells places
     → (p : ℕ) (w : ℕ) → p < count cells → sites_at cells p ≡ w
-    → Within (cell_rectangle design w (spot_of (segments_of design) (place_at places p))) (segment_rectangle design (segment_at (segments_of design).segments (place_at places p).segment))
+    → LiesIn (sites_at_spot design w (spot_of (segments_of design) (place_at places p))) (segment_rectangle design (segment_at (segments_of design).segments (place_at places p).segment))
 in_segment design cells places valid apart p w lt is =
     cell_within design (segment_at (segments_of design).segments (place_at places p).segment) (place_at places p).site w (spot_of (segments_of design) (place_at places p)) valid.pitch_sign
     (omega (arith, apart.within p lt, is)) refl refl
 
-not_blocked : (node : NodeValue) (r q : Rectangle) → Within r q → blocks node q ≡ false → blocks node r ≡ false
+not_blocked : (node : NodeValue) (r q : Rectangle) → LiesIn r q → blocks node q ≡ false → blocks node r ≡ false
 not_blocked node r q within clear = by_fixed node.fixed clear where
   by_fixed : (b : Bool) → (b && share_area (node_rectangle node) q) ≡ false → (b && share_area (node_rectangle node) r) ≡ false
   by_fixed true h = parts_apart (node_rectangle node) r (node_rectangle node) q (itself (node_rectangle node)) within h
@@ -193,27 +191,36 @@ legal_cell design cells places valid clear sites apart p i node =
     record {
       subrow = run.subrow;
       there = run.there;
-      site = run.from + at.site;
+      pitches = run.from + at.site;
       left = here;
       lower = run.lower;
-      right = omega (arith, ints, here, ends.sum, ends.most);
-      wide = wide_enough (node_value_at design.nodes i).width design.pitch good.width_sign valid.pitch_sign;
-      high = good.low (flip (node_value_at design.nodes i).fixed node.movable);
-      free = λ k lt. not_blocked (node_value_at design.nodes k) (cell_rectangle design w (spot_of (segments_of design) at)) (segment_rectangle design segment)
+      within = record {
+        left = omega (arith, ints, here, ends.start);
+        right = omega (arith, ints, here, ends.sum, ends.most);
+        lower = omega (arith, ints, run.lower);
+        upper = omega (arith, ints, run.lower);
+      };
+      contains = record {
+        left = omega (arith, ints);
+        right = omega (arith, ints, wide_enough (node_value_at design.nodes i).width design.pitch good.width_sign valid.pitch_sign);
+        lower = omega (arith, ints);
+        upper = omega (arith, ints, good.low (flip (node_value_at design.nodes i).fixed node.movable));
+      };
+      free = λ k lt. not_blocked (node_value_at design.nodes k) (sites_at_spot design w (spot_of (segments_of design) at)) (segment_rectangle design segment)
         (in_segment design cells places valid apart p w cell.there cell.sites) (run.free k lt);
     }
 
 -- two cells, in one segment or in two
 cells_apart : (design : DesignValue) (cells : CellsValue) (places : List Place) → IsDesign design → AreClear design → AreApart (segments_of design) cells places
     → (p q v w : ℕ) → p ≢ q → p < count cells → q < count cells → sites_at cells p ≡ v → sites_at cells q ≡ w
-    → share_area (cell_rectangle design v (spot_of (segments_of design) (place_at places p))) (cell_rectangle design w (spot_of (segments_of design) (place_at places q))) ≡ false
+    → share_area (sites_at_spot design v (spot_of (segments_of design) (place_at places p))) (sites_at_spot design w (spot_of (segments_of design) (place_at places q))) ≡ false
 cells_apart design cells places valid clear apart p q v w other lt_p lt_q is_v is_w =
     let a = place_at places p in
     let b = place_at places q in
     let in_a = in_segment design cells places valid apart p v lt_p is_v in
     let in_b = in_segment design cells places valid apart q w lt_q is_w in
-    let rect_a = cell_rectangle design v (spot_of (segments_of design) a) in
-    let rect_b = cell_rectangle design w (spot_of (segments_of design) b) in
+    let rect_a = sites_at_spot design v (spot_of (segments_of design) a) in
+    let rect_b = sites_at_spot design w (spot_of (segments_of design) b) in
     let seg_a = segment_at (segments_of design).segments a.segment in
     let seg_b = segment_at (segments_of design).segments b.segment in
     elim (cases_order a.segment b.segment) [

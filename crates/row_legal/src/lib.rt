@@ -16,7 +16,7 @@ mod sites;
 mod turns;
 
 pub use fault::LegalError;
-pub use laws::{places_apart, places_legal};
+pub use laws::{one_answer, places_apart, places_legal};
 pub use legal::legalise;
 pub use parts::{Place, Wish};
 pub use sites::Sites;
