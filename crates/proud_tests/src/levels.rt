@@ -1,67 +1,91 @@
-//! How often the regions are cut, and what is reported of the last level. All lines were worked out by hand.
+//! How often the regions are cut, and where the cells come to stand. All expected texts were worked out by hand.
 
-use super::{
-    Case, MIDDLE, ONE_CELL, TERMINALS, THREE_PADS, TWO_CELLS, Texts, USAGE, USUAL, assert_case,
-    case_of,
+use crate::designs::{
+    Case, MIDDLE, MIDDLE_REPORT, NO_CELL, ONE_CELL, THREE_PADS, TWO_CELLS, Texts, USAGE, USUAL,
+    assert_case, case_of, placed,
 };
-use crate::{FileKind, Status};
+use proud_top::{FileKind, Status};
 use std::test::Fail;
 
-/// The words of a run, the design in its folder, and the report.
-type Run = (&'static [&'static str], Texts<'static>, &'static [u8]);
+/// The words of a run, the design in its folder, the text of its placement, and the report.
+type Run = (
+    &'static [&'static str],
+    Texts<'static>,
+    &'static [u8],
+    &'static [u8],
+);
+
+/// Two cells at the places of the first level, and of the next.
+const NEAR: &[u8] = b"UCLA pl 1.0\na 2 0 : N\nb 6 0 : N\nl 0 5 : N /FIXED\nr 10 5 : N /FIXED\n";
+
+const APART: &[u8] = b"UCLA pl 1.0\na 2 0 : N\nb 7 0 : N\nl 0 5 : N /FIXED\nr 10 5 : N /FIXED\n";
+
+/// The usual design at each level.
+const ROWS: &[u8] = b"UCLA pl 1.0\nu 6 12 : N\nv 14 24 : N\n\
+    m 14 0 : N /FIXED\ni -1 18 : N /FIXED\nq 20 30 : N /FIXED\n";
 
 const RUNS: [Run; 9] = [
-    (&["proud", "--levels", "4", "a.aux"], ONE_CELL, MIDDLE),
+    (
+        &["proud", "--levels", "4", "a.aux"],
+        ONE_CELL,
+        MIDDLE,
+        MIDDLE_REPORT,
+    ),
     (
         &["proud", "--levels", "0", "a.aux"],
         THREE_PADS,
-        b"a 3333333 3333334 5000000 5000000\nlevels 0 gap 1\n",
+        b"UCLA pl 1.0\na 2 0 : N\nl 0 5 : N /FIXED\nr 10 5 : N /FIXED\nm 0 5 : N /FIXED\n",
+        b"cells 1 terminals 3 nets 3 pins 6\nlevels 0 gap 1\n",
     ),
     (
         &["proud", "--levels", "0", "a.aux"],
         TWO_CELLS,
-        b"a 3333333 3333334 4999999 5000001\nb 6666666 6666667 4999999 5000001\nlevels 0 gap 2\n",
+        NEAR,
+        b"cells 2 terminals 2 nets 3 pins 6\nlevels 0 gap 2\n",
     ),
     // the cells are in two halves of the core, and the gap is that of the level before
     (
         &["proud", "--levels", "1", "a.aux"],
         TWO_CELLS,
-        b"a 2500000 2500000 5000000 5000000\nb 7500000 7500000 5000000 5000000\nlevels 1 gap 2\n",
+        APART,
+        b"cells 2 terminals 2 nets 3 pins 6\nlevels 1 gap 2\n",
     ),
     (
         &["proud", "--levels", "01", "--seats", "7", "a.aux"],
         TWO_CELLS,
-        b"a 2500000 2500000 5000000 5000000\nb 7500000 7500000 5000000 5000000\nlevels 1 gap 2\n",
+        APART,
+        b"cells 2 terminals 2 nets 3 pins 6\nlevels 1 gap 2\n",
     ),
     (
         &["proud", "--levels", "12", "--seats", "1", "a.aux"],
         TWO_CELLS,
-        b"a 2500000 2500000 5000000 5000000\nb 7500000 7500000 5000000 5000000\nlevels 12 gap 2\n",
+        APART,
+        b"cells 2 terminals 2 nets 3 pins 6\nlevels 12 gap 2\n",
     ),
     (
         &["proud", "--levels", "0", "a.aux"],
         USUAL,
-        b"u 7739130 7739131 18608695 18608696\nv 16956521 16956522 25434782 25434783\n\
-            levels 0 gap 1\n",
+        ROWS,
+        b"cells 2 terminals 3 nets 3 pins 7\nlevels 0 gap 1\n",
     ),
-    // a cell of 3 sites lies below the line at y 13.5, one of 5 sites above it
     (
         &["proud", "--levels", "1", "a.aux"],
         USUAL,
-        b"u 7739130 7739131 13125000 13125000\nv 16956521 16956522 24833333 24833334\n\
-            levels 1 gap 1\n",
+        ROWS,
+        b"cells 2 terminals 3 nets 3 pins 7\nlevels 1 gap 1\n",
     ),
     (
         &["proud", "--levels", "2", "a.aux"],
-        TERMINALS,
-        b"levels 2 gap 0\n",
+        NO_CELL,
+        b"UCLA pl 1.0\np 3 4 : N /FIXED\n",
+        b"cells 0 terminals 1 nets 0 pins 0\nlevels 2 gap 0\n",
     ),
 ];
 
 #[test]
 fn levels_may_be_asked_for(rt: HostRuntime) -> Result<(), Fail> {
-    for (words, texts, report) in RUNS {
-        let case = case_of(texts, Status::Done, report);
+    for (words, texts, file, report) in RUNS {
+        let case = placed(texts, file, report);
         assert_case(&rt, rt.alloc(), Case { words, ..case })?;
     }
     Ok(())

@@ -1,33 +1,28 @@
+//! Designs in memory, and runs on them.
+
 ghost use Rattle.std.specs.Prelude.{IfOk};
 ghost use Rattle.book_outer.specs.Files.{AreNamesDistinct};
 
-use crate::{DesignFault, FileKind, Refusal, Status, proud};
 use book_outer::{Calls, Files, MemFolder, MemSink, OpenGate, Words};
 use book_text::Memory;
+use proud_top::{DesignFault, Refusal, Status, proud};
 use std::alloc::Global;
 use std::process::Abort;
-use std::test::Fail;
 use std::thread::Threads;
-
-mod exit;
-mod faults;
-mod levels;
-mod limits;
-mod seats;
 
 /// The texts of a design. That of the weights is read only where the aux file names it.
 #[derive(Clone, Copy)]
-struct Texts<'a> {
-    aux: &'a [u8],
-    nodes: &'a [u8],
-    nets: &'a [u8],
-    wts: &'a [u8],
-    pl: &'a [u8],
-    scl: &'a [u8],
+pub(crate) struct Texts<'a> {
+    pub(crate) aux: &'a [u8],
+    pub(crate) nodes: &'a [u8],
+    pub(crate) nets: &'a [u8],
+    pub(crate) wts: &'a [u8],
+    pub(crate) pl: &'a [u8],
+    pub(crate) scl: &'a [u8],
 }
 
 /// One cell between two terminals.
-const ONE_CELL: Texts = Texts {
+pub(crate) const ONE_CELL: Texts = Texts {
     aux: b"RowBasedPlacement : a.nodes a.nets a.pl a.scl\n",
     nodes: b"UCLA nodes 1.0\nNumNodes : 3\nNumTerminals : 2\n\
         a 2 10\nl 0 0 terminal\nr 0 0 terminal\n",
@@ -40,7 +35,7 @@ const ONE_CELL: Texts = Texts {
 };
 
 /// Two cells in a chain between two terminals.
-const TWO_CELLS: Texts = Texts {
+pub(crate) const TWO_CELLS: Texts = Texts {
     nodes: b"UCLA nodes 1.0\nNumNodes : 4\nNumTerminals : 2\n\
         a 2 10\nb 2 10\nl 0 0 terminal\nr 0 0 terminal\n",
     nets: b"UCLA nets 1.0\nNumNets : 3\nNumPins : 6\n\
@@ -50,7 +45,7 @@ const TWO_CELLS: Texts = Texts {
 };
 
 /// One cell between three terminals, of which two stand on the left.
-const THREE_PADS: Texts = Texts {
+pub(crate) const THREE_PADS: Texts = Texts {
     nodes: b"UCLA nodes 1.0\nNumNodes : 4\nNumTerminals : 3\n\
         a 2 10\nl 0 0 terminal\nr 0 0 terminal\nm 0 0 terminal\n",
     nets: b"UCLA nets 1.0\nNumNets : 3\nNumPins : 6\n\
@@ -59,16 +54,16 @@ const THREE_PADS: Texts = Texts {
     ..ONE_CELL
 };
 
-/// Two terminals, and nothing between them.
-const TERMINALS: Texts = Texts {
-    nodes: b"UCLA nodes 1.0\nNumNodes : 2\nNumTerminals : 2\nl 0 0 terminal\nr 0 0 terminal\n",
+/// One terminal, and no net.
+pub(crate) const NO_CELL: Texts = Texts {
+    nodes: b"UCLA nodes 1.0\nNumNodes : 1\nNumTerminals : 1\np 0 0 terminal\n",
     nets: b"UCLA nets 1.0\nNumNets : 0\nNumPins : 0\n",
-    pl: b"UCLA pl 1.0\nl 0 5 : N /FIXED\nr 10 5 : N /FIXED\n",
+    pl: b"UCLA pl 1.0\np 3 4 : N /FIXED\n",
     ..ONE_CELL
 };
 
 /// A design as such files usually are: offsets, pads beside the core, a macro over two rows, a net with a weight.
-const USUAL: Texts = Texts {
+pub(crate) const USUAL: Texts = Texts {
     aux: b"RowBasedPlacement : a.nodes a.nets a.wts a.pl a.scl\n",
     nodes: b"UCLA nodes 1.0\n# a comment\n\nNumNodes : 5\nNumTerminals : 3\n\tu\t3\t12\n\tv\t5\t12\n\
         \tm\t6\t24\tterminal\n\ti\t1\t1\tterminal\n\tq\t1\t1\tterminal\n",
@@ -89,13 +84,13 @@ const USUAL: Texts = Texts {
 };
 
 /// One cell between two terminals, where the aux file names the weights.
-const WEIGHTED: Texts = Texts {
+pub(crate) const WEIGHTED: Texts = Texts {
     aux: b"RowBasedPlacement : a.nodes a.nets a.wts a.pl a.scl\n",
     ..ONE_CELL
 };
 
 /// The files in the folder itself, in a folder below, or without those of the weights and the places.
-fn files_of(alloc: Global, texts: Texts<'_>) -> Result<Files, Memory>
+pub(crate) fn files_of(alloc: Global, texts: Texts<'_>) -> Result<Files, Memory>
     ensures { IfOk result AreNamesDistinct }
 {
     let mut files = Files::new(alloc);
@@ -108,7 +103,7 @@ fn files_of(alloc: Global, texts: Texts<'_>) -> Result<Files, Memory>
     Ok(files)
 }
 
-fn files_below(alloc: Global, texts: Texts<'_>) -> Result<Files, Memory>
+pub(crate) fn files_below(alloc: Global, texts: Texts<'_>) -> Result<Files, Memory>
     ensures { IfOk result AreNamesDistinct }
 {
     let mut files = Files::new(alloc);
@@ -120,7 +115,7 @@ fn files_below(alloc: Global, texts: Texts<'_>) -> Result<Files, Memory>
     Ok(files)
 }
 
-fn files_without(alloc: Global, texts: Texts<'_>) -> Result<Files, Memory>
+pub(crate) fn files_without(alloc: Global, texts: Texts<'_>) -> Result<Files, Memory>
     ensures { IfOk result AreNamesDistinct }
 {
     let mut files = Files::new(alloc);
@@ -132,7 +127,7 @@ fn files_without(alloc: Global, texts: Texts<'_>) -> Result<Files, Memory>
 }
 
 /// The number of one call, or none for 0.
-fn calls_of(alloc: Global, number: u64) -> Result<Calls, Memory> {
+pub(crate) fn calls_of(alloc: Global, number: u64) -> Result<Calls, Memory> {
     let mut calls = Calls::new(alloc);
     if number != 0 {
         calls.push(number)?;
@@ -142,32 +137,44 @@ fn calls_of(alloc: Global, number: u64) -> Result<Calls, Memory> {
 
 /// A run on a design in the folder itself, and what it is to answer.
 #[derive(Clone, Copy)]
-struct Case<'a> {
-    words: &'static [&'static str],
-    texts: Texts<'a>,
+pub(crate) struct Case<'a> {
+    pub(crate) words: &'static [&'static str],
+    pub(crate) texts: Texts<'a>,
     /// The number of the folder's call that fails, or 0.
-    call: u64,
+    pub(crate) call: u64,
     /// The number of the put that fails, or 0.
-    put: u64,
-    status: Status,
-    report: &'static [u8],
+    pub(crate) put: u64,
+    pub(crate) status: Status,
+    /// What the output file holds, where there is one.
+    pub(crate) file: Option<&'a [u8]>,
+    pub(crate) report: &'static [u8],
 }
 
 /// The words of a run on the design in the folder itself.
-const A: &[&str] = &["proud", "a.aux"];
+pub(crate) const A: &[&str] = &["proud", "a.aux"];
 
-fn case_of<'a>(texts: Texts<'a>, status: Status, report: &'static [u8]) -> Case<'a> {
+/// A run that ends without an output file.
+pub(crate) fn case_of<'a>(texts: Texts<'a>, status: Status, report: &'static [u8]) -> Case<'a> {
     Case {
         words: A,
         texts,
         call: 0,
         put: 0,
         status,
+        file: None,
         report,
     }
 }
 
-fn words_of(alloc: Global, words: &[&str]) -> Result<Words, Memory> {
+/// A run that is done, with the text of its output file and its report.
+pub(crate) fn placed<'a>(texts: Texts<'a>, file: &'a [u8], report: &'static [u8]) -> Case<'a> {
+    Case {
+        file: Some(file),
+        ..case_of(texts, Status::Done, report)
+    }
+}
+
+pub(crate) fn words_of(alloc: Global, words: &[&str]) -> Result<Words, Memory> {
     let mut list = Words::new(alloc);
     for word in words {
         list.push(word)?;
@@ -175,8 +182,8 @@ fn words_of(alloc: Global, words: &[&str]) -> Result<Words, Memory> {
     Ok(list)
 }
 
-/// Asserts the status, what the report got, and that the files are as they were.
-fn assert_case<R: Threads + Abort + Sync>(
+/// Asserts the status, what the output file holds and the report got, and that all other files are as they were.
+pub(crate) fn assert_case<R: Threads + Abort + Sync>(
     rt: &R,
     alloc: Global,
     case: Case<'_>,
@@ -187,6 +194,7 @@ fn assert_case<R: Threads + Abort + Sync>(
     let status = proud(rt, alloc, &words, &mut folder, &mut report, &OpenGate);
     assert_eq!(rt; status, case.status);
     assert!(rt; report.written() == case.report, "{status:?}");
+    assert!(rt; folder.file("a.proud.pl") == case.file);
     assert!(rt; folder.file("a.aux") == Some(case.texts.aux));
     assert!(rt; folder.file("a.nodes") == Some(case.texts.nodes));
     assert!(rt; folder.file("a.nets") == Some(case.texts.nets));
@@ -196,82 +204,27 @@ fn assert_case<R: Threads + Abort + Sync>(
     Ok(())
 }
 
-/// The report of one cell that stands in the middle.
-const MIDDLE: &[u8] = b"a 5000000 5000000 5000000 5000000\nlevels 4 gap 0\n";
+/// The placement of one cell between two terminals, and its report.
+pub(crate) const MIDDLE: &[u8] = b"UCLA pl 1.0\na 4 0 : N\nl 0 5 : N /FIXED\nr 10 5 : N /FIXED\n";
 
-const PLACED: [(Texts, &[u8]); 9] = [
-    (ONE_CELL, MIDDLE),
-    (
-        THREE_PADS,
-        b"a 3333333 3333334 5000000 5000000\nlevels 4 gap 1\n",
-    ),
-    (
-        TWO_CELLS,
-        b"a 2500000 2500000 5000000 5000000\nb 7500000 7500000 5000000 5000000\nlevels 4 gap 2\n",
-    ),
-    (
-        USUAL,
-        b"u 7739130 7739131 13125000 13125000\nv 16956521 16956522 24833333 24833334\nlevels 4 gap 1\n",
-    ),
-    (TERMINALS, b"levels 4 gap 0\n"),
-    // the terminal l stands beside the core: it is clamped to the core's left end
-    (
-        Texts {
-            pl: b"UCLA pl 1.0\na 0 0 : N\nl -50 5 : N /FIXED\nr 10 5 : N /FIXED\n",
-            ..ONE_CELL
-        },
-        MIDDLE,
-    ),
-    (
-        Texts {
-            nets: b"UCLA nets 1.0\nNumNets : 2\nNumPins : 4\n\
-                NetDegree : 2 n0\nl B : 1 0\na B\nNetDegree : 2 n1\na B\nr B\n",
-            ..ONE_CELL
-        },
-        b"a 5500000 5500000 5000000 5000000\nlevels 4 gap 0\n",
-    ),
-    (
-        Texts {
-            wts: b"UCLA wts 1.0\nn0 65535\n",
-            ..WEIGHTED
-        },
-        b"a 152 153 5000000 5000000\nlevels 4 gap 1\n",
-    ),
-    // a name of weights that no net has is without effect
-    (
-        Texts {
-            wts: b"UCLA wts 1.0\nn7 3\n",
-            ..WEIGHTED
-        },
-        MIDDLE,
-    ),
-];
-
-#[test]
-fn designs_are_placed(rt: HostRuntime) -> Result<(), Fail> {
-    for (texts, report) in PLACED {
-        let case = case_of(texts, Status::Done, report);
-        assert_case(&rt, rt.alloc(), case)?;
-    }
-    assert_eq!(rt; Status::Done.code(), 0);
-    Ok(())
-}
+pub(crate) const MIDDLE_REPORT: &[u8] = b"cells 1 terminals 2 nets 2 pins 4\nlevels 4 gap 0\n";
 
 /// The line for words of another form.
-const USAGE: &[u8] = b"usage: proud [--levels N] [--seats N] DESIGN\n";
+pub(crate) const USAGE: &[u8] = b"usage: proud [--levels N] [--seats N] DESIGN\n";
 
 /// A run without a word behind the program's name.
-const NO_WORDS: Case = Case {
+pub(crate) const NO_WORDS: Case = Case {
     words: &["proud"],
     texts: ONE_CELL,
     call: 0,
     put: 0,
     status: Status::Usage,
+    file: None,
     report: USAGE,
 };
 
 /// A run on a cell that is taller than a row.
-const TALL_CELL: Case = Case {
+pub(crate) const TALL_CELL: Case = Case {
     words: A,
     texts: Texts {
         nodes: b"UCLA nodes 1.0\nNumNodes : 3\na 2 11\nl 0 0 terminal\nr 0 0 terminal\n",
@@ -280,136 +233,6 @@ const TALL_CELL: Case = Case {
     call: 0,
     put: 0,
     status: Status::Refused(Refusal::Design(DesignFault::TallCell { node: 0 })),
+    file: None,
     report: b"proud: node a: taller than a row\n",
 };
-
-/// A run in which the file of the nodes can't be begun.
-const NO_NODES: Case = Case {
-    words: A,
-    texts: ONE_CELL,
-    call: 4,
-    put: 0,
-    status: Status::ReadFault(FileKind::Nodes),
-    report: b"proud: cannot read nodes\n",
-};
-
-/// A run that ends with a status, and the exit status.
-const OTHERS: [(Case, u8); 12] = [
-    (NO_WORDS, 1),
-    (
-        Case {
-            words: &["proud", "a.aux", "a.aux"],
-            ..NO_WORDS
-        },
-        1,
-    ),
-    (
-        Case {
-            words: &[],
-            ..NO_WORDS
-        },
-        1,
-    ),
-    // nothing is read where the words have another form
-    (
-        Case {
-            call: 1,
-            ..NO_WORDS
-        },
-        1,
-    ),
-    (
-        Case {
-            put: 1,
-            report: b"",
-            ..NO_WORDS
-        },
-        1,
-    ),
-    (TALL_CELL, 2),
-    (
-        Case {
-            put: 1,
-            report: b"",
-            ..TALL_CELL
-        },
-        2,
-    ),
-    // the folder's calls: begin, read and read of each file
-    (NO_NODES, 3),
-    (
-        Case {
-            call: 5,
-            ..NO_NODES
-        },
-        3,
-    ),
-    (
-        Case {
-            call: 5,
-            put: 1,
-            report: b"",
-            ..NO_NODES
-        },
-        3,
-    ),
-    (
-        Case {
-            call: 12,
-            status: Status::ReadFault(FileKind::Pl),
-            report: b"proud: cannot read pl\n",
-            ..NO_NODES
-        },
-        3,
-    ),
-    (
-        Case {
-            words: A,
-            put: 1,
-            status: Status::WriteFault,
-            report: b"",
-            ..NO_WORDS
-        },
-        4,
-    ),
-];
-
-#[test]
-fn other_statuses_are_answered(rt: HostRuntime) -> Result<(), Fail> {
-    for (case, code) in OTHERS {
-        assert_case(&rt, rt.alloc(), case)?;
-        assert_eq!(rt; case.status.code(), code);
-    }
-    Ok(())
-}
-
-#[test]
-fn files_stand_beside_the_aux_file(rt: HostRuntime) -> Result<(), Fail> {
-    let alloc = rt.alloc();
-    let mut folder = MemFolder::new(files_below(alloc, ONE_CELL)?, Calls::new(alloc));
-    let mut report = MemSink::new(alloc, Calls::new(alloc));
-    let words = words_of(alloc, &["proud", "d/a.aux"])?;
-    let status = proud(&rt, alloc, &words, &mut folder, &mut report, &OpenGate);
-    assert_eq!(rt; status, Status::Done);
-    assert!(rt; report.written() == MIDDLE);
-    Ok(())
-}
-
-#[test]
-fn absent_files_are_named(rt: HostRuntime) -> Result<(), Fail> {
-    let alloc = rt.alloc();
-    let cases: [(Texts<'static>, FileKind, &'static [u8]); 2] = [
-        (ONE_CELL, FileKind::Pl, b"proud: cannot read pl\n"),
-        (USUAL, FileKind::Wts, b"proud: cannot read wts\n"),
-    ];
-    for (texts, kind, line) in cases {
-        let mut folder = MemFolder::new(files_without(alloc, texts)?, Calls::new(alloc));
-        let mut report = MemSink::new(alloc, Calls::new(alloc));
-        let words = words_of(alloc, A)?;
-        let status = proud(&rt, alloc, &words, &mut folder, &mut report, &OpenGate);
-        assert_eq!(rt; status, Status::ReadFault(kind));
-        assert!(rt; report.written() == line);
-    }
-    assert_eq!(rt; Status::Memory.code(), 5);
-    Ok(())
-}

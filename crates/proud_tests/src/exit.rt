@@ -1,15 +1,17 @@
 //! The exit status of a run.
 
-use super::{Case, MIDDLE, NO_WORDS, ONE_CELL, TALL_CELL, case_of, files_of, words_of};
-use crate::{Status, exit_code};
+use crate::designs::{
+    Case, MIDDLE, MIDDLE_REPORT, NO_WORDS, ONE_CELL, TALL_CELL, case_of, files_of, placed, words_of,
+};
 use book_outer::{Calls, MemFolder, MemSink, OpenGate, Words};
 use book_text::Memory;
+use proud_top::{Status, exit_code};
 use std::alloc::Global;
 use std::process::Abort;
 use std::test::Fail;
 use std::thread::Threads;
 
-/// Asserts the exit status of a run without a call that fails, and what the report got.
+/// Asserts the exit status of a run without a call that fails, and what the output file holds and the report got.
 fn assert_exit<R: Threads + Abort + Sync>(
     rt: &R,
     alloc: Global,
@@ -22,13 +24,14 @@ fn assert_exit<R: Threads + Abort + Sync>(
     let exit = exit_code(rt, alloc, words, &mut folder, &mut report, &OpenGate);
     assert_eq!(rt; exit, code);
     assert!(rt; report.written() == case.report);
+    assert!(rt; folder.file("a.proud.pl") == case.file);
     Ok(())
 }
 
 #[test]
 fn runs_end_with_their_codes(rt: HostRuntime) -> Result<(), Fail> {
-    let placed = case_of(ONE_CELL, Status::Done, MIDDLE);
-    for (case, code) in [(placed, 0), (NO_WORDS, 1), (TALL_CELL, 2)] {
+    let done = placed(ONE_CELL, MIDDLE, MIDDLE_REPORT);
+    for (case, code) in [(done, 0), (NO_WORDS, 1), (TALL_CELL, 2)] {
         let words = Ok(words_of(rt.alloc(), case.words)?);
         assert_exit(&rt, rt.alloc(), words, case, code)?;
     }

@@ -1,10 +1,8 @@
 //! Designs that are refused, and the line of each.
 
-use super::{ONE_CELL, Texts, WEIGHTED, assert_case, case_of};
-use crate::refusal::fault_line;
-use crate::stop::Stop;
-use crate::{DesignFault, FileKind, NetFault, Refusal, Status, TextFault, TextKind};
+use crate::designs::{Case, ONE_CELL, Texts, WEIGHTED, assert_case, case_of, placed};
 use book_text::Memory;
+use proud_top::{DesignFault, FileKind, NetFault, Refusal, Status, TextFault, TextKind};
 use std::alloc::Global;
 use std::process::Abort;
 use std::test::Fail;
@@ -269,13 +267,30 @@ fn lines_of(
     Ok(text)
 }
 
+/// The status of a run, and what the report gets.
+#[derive(Clone, Copy)]
+struct End {
+    status: Status,
+    report: &'static [u8],
+}
+
+impl End {
+    /// The run with this end, which has this output file where it is done.
+    fn of<'a>(self, texts: Texts<'a>, file: &'a [u8]) -> Case<'a> {
+        if self.status == Status::Done {
+            placed(texts, file, self.report)
+        } else {
+            case_of(texts, self.status, self.report)
+        }
+    }
+}
+
 /// One cell with so many nets to a pad, each of the greatest weight.
 fn assert_many_nets<R: Threads + Abort + Sync>(
     rt: &R,
     alloc: Global,
     nets: u32,
-    status: Status,
-    report: &'static [u8],
+    end: End,
 ) -> Result<(), Memory> {
     let pins = u64::from(nets) * 2;
     let head = format!(in alloc; "UCLA nets 1.0\nNumNets : {nets}\nNumPins : {pins}\n")?;
@@ -287,16 +302,28 @@ fn assert_many_nets<R: Threads + Abort + Sync>(
         wts: weight_text.as_slice(),
         ..ONE_CELL
     };
-    assert_case(rt, alloc, case_of(texts, status, report))
+    assert_case(
+        rt,
+        alloc,
+        end.of(
+            texts,
+            b"UCLA pl 1.0\na 0 0 : N\nl 0 5 : N /FIXED\nr 10 5 : N /FIXED\n",
+        ),
+    )
 }
 
 #[test]
 fn points_that_are_too_heavy_are_named(rt: HostRuntime) -> Result<(), Fail> {
-    let light = b"a 0 0 5000000 5000000\nlevels 4 gap 0\n";
-    assert_many_nets(&rt, rt.alloc(), 19_973, Status::Done, light)?;
-    let heavy = Status::Refused(Refusal::Net(NetFault::Heavy(0)));
-    let line = b"proud: node a: too heavy\n";
-    assert_many_nets(&rt, rt.alloc(), 19_974, heavy, line)?;
+    let light = End {
+        status: Status::Done,
+        report: b"cells 1 terminals 2 nets 19973 pins 39946\nlevels 4 gap 0\n",
+    };
+    assert_many_nets(&rt, rt.alloc(), 19_973, light)?;
+    let heavy = End {
+        status: Status::Refused(Refusal::Net(NetFault::Heavy(0))),
+        report: b"proud: node a: too heavy\n",
+    };
+    assert_many_nets(&rt, rt.alloc(), 19_974, heavy)?;
     Ok(())
 }
 
@@ -305,8 +332,7 @@ fn assert_many_pads<R: Threads + Abort + Sync>(
     rt: &R,
     alloc: Global,
     pads: u32,
-    status: Status,
-    report: &'static [u8],
+    end: End,
 ) -> Result<(), Memory> {
     let nodes = u64::from(pads) + 2;
     let head = format!(in alloc; "UCLA nodes 1.0\nNumNodes : {nodes}\na 2 10\nb 2 10\n")?;
@@ -322,17 +348,28 @@ fn assert_many_pads<R: Threads + Abort + Sync>(
         pl: place_text.as_slice(),
         ..ONE_CELL
     };
-    assert_case(rt, alloc, case_of(texts, status, report))
+    let file = lines_of(
+        alloc,
+        "UCLA pl 1.0\na 0 0 : N\nb 4 0 : N\n",
+        "p",
+        " 0 5 : N /FIXED",
+        pads,
+    )?;
+    assert_case(rt, alloc, end.of(texts, file.as_slice()))
 }
 
 #[test]
 fn nets_that_are_too_wide_are_named(rt: HostRuntime) -> Result<(), Fail> {
-    let narrow = b"a 9784 9785 5000000 5000000\nb 5000000 5000000 5000000 5000000\n\
-        levels 4 gap 2\n";
-    assert_many_pads(&rt, rt.alloc(), 510, Status::Done, narrow)?;
-    let wide = Status::Refused(Refusal::Net(NetFault::NetTooWide(0)));
-    let line = b"proud: net 0: too wide\n";
-    assert_many_pads(&rt, rt.alloc(), 511, wide, line)?;
+    let narrow = End {
+        status: Status::Done,
+        report: b"cells 2 terminals 510 nets 1 pins 512\nlevels 4 gap 2\n",
+    };
+    assert_many_pads(&rt, rt.alloc(), 510, narrow)?;
+    let wide = End {
+        status: Status::Refused(Refusal::Net(NetFault::NetTooWide(0))),
+        report: b"proud: net 0: too wide\n",
+    };
+    assert_many_pads(&rt, rt.alloc(), 511, wide)?;
     Ok(())
 }
 
@@ -358,12 +395,26 @@ fn nets_with_too_many_edges_are_named(rt: HostRuntime) -> Result<(), Fail> {
     Ok(())
 }
 
-// A file of so many bytes is too large for a test, so its line alone is looked at.
+/// Six cells of two sites in a row of ten.
 #[test]
-fn the_line_of_a_file_that_is_too_long(rt: HostRuntime) -> Result<(), Fail> {
-    let stop = Stop::Refused(Refusal::TooLong(FileKind::Nets));
-    let line = fault_line(rt.alloc(), stop, None)?;
-    let expected: &[u8] = b"proud: nets: longer than 268435456 bytes\n";
-    assert!(rt; line.as_slice() == expected);
+fn a_cell_without_room_is_named(rt: HostRuntime) -> Result<(), Fail> {
+    let texts = Texts {
+        nodes: b"UCLA nodes 1.0\nNumNodes : 7\na 2 10\nb 2 10\nc 2 10\nd 2 10\ne 2 10\nf 2 10\nl 0 0 terminal\n",
+        nets: b"UCLA nets 1.0\nNumNets : 6\nNumPins : 12\nNetDegree : 2\nl B\na B\n\
+            NetDegree : 2\nl B\nb B\nNetDegree : 2\nl B\nc B\nNetDegree : 2\nl B\nd B\n\
+            NetDegree : 2\nl B\ne B\nNetDegree : 2\nl B\nf B\n",
+        pl: b"UCLA pl 1.0\nl 0 5 : N /FIXED\n",
+        ..ONE_CELL
+    };
+    let refused = Status::Refused(Refusal::NoRoom {
+        cell: 5,
+        sites: 2,
+        largest: 0,
+    });
+    let line = b"proud: node f: no room for 2 sites, 0 left\n";
+    let case = case_of(texts, refused, line);
+    let words = &["proud", "--levels", "0", "a.aux"];
+    assert_case(&rt, rt.alloc(), Case { words, ..case })?;
+    assert_eq!(rt; refused.code(), 2);
     Ok(())
 }
