@@ -1,9 +1,9 @@
 #!/usr/bin/env python3
 """Runs programs on small random designs, and compares what they answer with what levels.py finds.
 
-compare_levels.py [--count N] [--seed K] [--lines] PROGRAM .., by default 200 designs. Each program, which may have options
+compare_levels.py [--count N] [--seed K] PROGRAM .., by default 200 designs. Each program, which may have options
 behind its name, is run as PROGRAM --levels N AUX. Compared are its status, what it prints, and the placement that it makes
-beside the design, which is looked at by legal.py too. With --lines the programs are to print coordinates and place nothing.
+beside the design, which is looked at by legal.py too.
 
 The designs have cores from a millionth to some hundred thousand units wide, so that means round, mids tie, sides of regions
 come to 0, and sums pass 64 bits; pads inside the core and far outside, cells of no width, nets with a node twice, and weights
@@ -133,7 +133,6 @@ def main():
     parser = argparse.ArgumentParser()
     parser.add_argument("--count", type=int, default=200)
     parser.add_argument("--seed", type=int, default=1)
-    parser.add_argument("--lines", action="store_true")
     parser.add_argument("programs", nargs="+")
     options = parser.parse_args()
     failed = placed = 0
@@ -144,7 +143,7 @@ def main():
                 with open(os.path.join(folder, name), "w") as file:
                     file.writelines(line + "\n" for line in lines)
             aux, number = os.path.join(folder, "d.aux"), rng.choice([0, 1, 2, 3, 4, 4, 12])
-            due = (0, levels.coordinates(aux, number), None) if options.lines else levels.answer(aux, number)
+            due = levels.answer(aux, number)
             placed += due[0] == 0
             for program in options.programs:
                 answer = answer_of(program, aux, number)

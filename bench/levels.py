@@ -1,11 +1,10 @@
 #!/usr/bin/env python3
 """What the program makes of a design, found once more: small and slow, in exact integers, straight from the rules.
 
-levels.py [--levels N] [--out FILE] [--lines] AUX, by default 4 levels; FILE is by default AUX without its .aux and with
-.proud.pl, and with --lines it prints coordinates and places nothing. It shares nothing with place_cells.rs: it sums a weight
-for each pair of points, renews all entries of a vector at once until none moves, tests each site against each fixed node, and
-looks at each segment for each cell. It tests no design: a fault in one ends in some error of Python. compare_levels.py runs
-other programs beside it.
+levels.py [--levels N] [--out FILE] AUX, by default 4 levels; FILE is by default AUX without its .aux and with .proud.pl. It
+shares nothing with place_cells.rs: it sums a weight for each pair of points, renews all entries of a vector at once until none
+moves, tests each site against each fixed node, and looks at each segment for each cell. It tests no design: a fault in one ends
+in some error of Python. compare_levels.py runs other programs beside it.
 """
 import argparse
 import itertools
@@ -265,15 +264,6 @@ def text(lines):
     return "".join(line + "\n" for line in lines).encode(errors="surrogateescape")
 
 
-def coordinates(aux, number):
-    """The bytes that are printed in place of a placement, for a design with so many levels."""
-    design = Design(aux)
-    found = list(levels(Network(design), number))
-    vectors = [vector for pair in found[-1] for vector in pair]
-    lines = [f"{name} {' '.join(map(str, numbers))}" for name, *numbers in zip(design.cells, *vectors)]
-    return text(lines + [f"levels {number} gap {spread(found)}"])
-
-
 def answer(aux, number):
     """For a design with so many levels: the status, the bytes that are printed, and those of the placement or None."""
     design = Design(aux)
@@ -292,12 +282,8 @@ def main():
     parser = argparse.ArgumentParser()
     parser.add_argument("--levels", type=int, default=4)
     parser.add_argument("--out")
-    parser.add_argument("--lines", action="store_true")
     parser.add_argument("aux")
     options = parser.parse_args()
-    if options.lines:
-        os.write(1, coordinates(options.aux, options.levels))
-        return 0
     status, printed, made = answer(options.aux, options.levels)
     if made is not None:
         with open(options.out or options.aux.removesuffix(".aux") + ".proud.pl", "wb") as file:

@@ -1,12 +1,10 @@
 //! The whole placer by hand in plain Rust, without its proofs, to measure the proved program against.
 //!
-//! `place_cells [--tell] [--lines] [--levels N] [--seats N] [--out FILE] DESIGN` reads the design beside the aux file, solves
-//! it, cuts its core N times (by default 4) and solves each level anew. It puts the cells on sites and writes the placement to
-//! FILE, by default to DESIGN without its `.aux` and with `.proud.pl`, and prints how much there is of what, and how far the
-//! lower and the upper coordinates stand apart at most in any level. Without `--seats` it solves by plain sweeps; with it, by a
-//! crew of that many threads on shared words. With `--tell`, standard error gets the sweeps, or the relaxations of each seat.
-//! With `--lines` it puts no cell on a site, but prints for each its name and its lower and upper coordinate on x and on y in
-//! the last level.
+//! `place_cells [--tell] [--levels N] [--seats N] [--out FILE] DESIGN` reads the design beside the aux file, solves it, cuts
+//! its core N times (by default 4) and solves each level anew. It puts the cells on sites and writes the placement to FILE, by
+//! default to DESIGN without its `.aux` and with `.proud.pl`, and prints how much there is of what, and how far the lower and
+//! the upper coordinates stand apart at most in any level. Without `--seats` it solves by plain sweeps; with it, by a crew of
+//! that many threads on shared words. With `--tell`, standard error gets the sweeps, or the relaxations of each seat.
 //!
 //! The points lie in flat arrays, sums are in `u64` where all of a design fit, and coordinates count from the core's lower
 //! end. `place_cells.sh`, `seats.sh` and `levels.sh` build it and run it beside the proved program.
@@ -29,19 +27,17 @@ use projection::{Sum, project};
 use regions::Regions;
 use segments::segments;
 use solving::System;
-use std::fmt::Write as _;
 use std::io::Write as _;
 use std::path::Path;
 use std::process::ExitCode;
 use std::{env, fs, io};
 
-/// How a run goes: how often the core is cut, with how many seats, where by a crew, whether it tells its work, whether it
-/// prints coordinates, and where the placement goes.
+/// How a run goes: how often the core is cut, with how many seats, where by a crew, whether it tells its work, and
+/// where the placement goes.
 struct Way {
     levels: u32,
     seats: Option<usize>,
     tell: bool,
-    lines: bool,
     out: Option<String>,
 }
 
@@ -134,25 +130,6 @@ fn solve<S: Sum>(system: &System<S>, name: &str, way: &Way) -> Solved {
     }
 }
 
-/// The lower and upper coordinates of each cell.
-fn lines_of(design: &Design, network: &Network, placed: &Placed, levels: u32) -> Vec<u8> {
-    let mut report = Vec::new();
-    let mut numbers = String::new();
-    for (point, node) in network.nodes.iter().enumerate() {
-        numbers.clear();
-        for (vectors, (low, _)) in placed.last.iter().zip(design.core) {
-            for vector in vectors {
-                write!(numbers, " {}", low + vector[point] as i64).expect("room");
-            }
-        }
-        report.extend_from_slice(design.nodes[*node].name);
-        report.extend_from_slice(numbers.as_bytes());
-        report.push(b'\n');
-    }
-    writeln!(report, "levels {levels} gap {}", placed.gap).expect("room");
-    report
-}
-
 /// The placement, of cells that stand on sites.
 fn placement_of(design: &Design, network: &Network, placed: &Placed) -> Result<Vec<u8>, NoRoom> {
     let segments = segments(design);
@@ -190,14 +167,12 @@ fn words() -> Option<(Way, String)> {
         levels: 4,
         seats: None,
         tell: false,
-        lines: false,
         out: None,
     };
     let mut words = env::args().skip(1);
     loop {
         match words.next()?.as_str() {
             "--tell" => way.tell = true,
-            "--lines" => way.lines = true,
             "--out" => way.out = Some(words.next()?),
             "--levels" => {
                 way.levels = words.next()?.parse().ok().filter(|levels| *levels <= 12)?;
@@ -223,9 +198,7 @@ fn refused(line: &str) -> ExitCode {
 
 fn main() -> ExitCode {
     let Some((way, aux)) = words() else {
-        println!(
-            "usage: place_cells [--tell] [--lines] [--levels N] [--seats N] [--out FILE] DESIGN"
-        );
+        println!("usage: place_cells [--tell] [--levels N] [--seats N] [--out FILE] DESIGN");
         return ExitCode::from(1);
     };
     let texts = load(Path::new(&aux));
@@ -235,19 +208,15 @@ fn main() -> ExitCode {
         Err(fault) => return refused(&refusal_of(&design, fault)),
     };
     let placed = place(&network, &design, &way);
-    let report = if way.lines {
-        lines_of(&design, &network, &placed, way.levels)
-    } else {
-        let placement = match placement_of(&design, &network, &placed) {
-            Ok(placement) => placement,
-            Err(fault) => return refused(&no_room(&design, fault)),
-        };
-        let name = way.out.unwrap_or_else(|| placement_name(&aux));
-        if fs::write(name, placement).is_err() {
-            return ExitCode::from(4);
-        }
-        report_text(&design, way.levels, placed.gap)
+    let placement = match placement_of(&design, &network, &placed) {
+        Ok(placement) => placement,
+        Err(fault) => return refused(&no_room(&design, fault)),
     };
+    let name = way.out.unwrap_or_else(|| placement_name(&aux));
+    if fs::write(name, placement).is_err() {
+        return ExitCode::from(4);
+    }
+    let report = report_text(&design, way.levels, placed.gap);
     match io::stdout().write_all(&report) {
         Ok(()) => ExitCode::SUCCESS,
         Err(_) => ExitCode::from(4),
