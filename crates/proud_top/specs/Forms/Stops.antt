@@ -4,7 +4,7 @@ use Rattle.std.specs.List.{count_by}
 use Rattle.book_outer.specs.Cause.{Rose}
 use Rattle.book_outer.specs.State.{FolderState, SinkState}
 use Rattle.book_design.specs.Records.{Records}
-use Rattle.book_design.specs.Values.{DesignValue}
+use Rattle.book_design.specs.Values.{NodeValue, DesignValue}
 use Rattle.book_design.specs.Answers.{IsJoined}
 use Rattle.book_files.specs.Entries.{NodeEntry}
 use Rattle.book_design.specs.Points.{is_movable, node_value_at, IsNodeOf}
@@ -105,17 +105,11 @@ pub record HasPoint (texts : Texts) (point : ℕ) : Type 0 where
 abbrev pub IsNameAt : List NodeEntry → List ℕ → ℕ → Type 0
 IsNameAt nodes name number = (node : NodeEntry) × (slice_get nodes number ≡ Some node) × (name ≡ node.name)
 
--- the point of the design is a node of this name
-pub record IsPointNamed (design : DesignValue) (name : List ℕ) (point : ℕ) : Type 0 where
+-- the point among the nodes is one of this name
+pub record IsPointNamed (nodes : List NodeValue) (name : List ℕ) (point : ℕ) : Type 0 where
   pub number : ℕ
-  pub node : IsNodeOf design.nodes point number
-  pub named : name ≡ (node_value_at design.nodes number).name
-
--- the texts make the design
-pub record IsDesignOf (texts : Texts) (design : DesignValue) : Type 0 where
-  pub records : Records
-  pub read : AreRecords texts records
-  pub joined : IsJoined records design
+  pub node : IsNodeOf nodes point number
+  pub named : name ≡ (node_value_at nodes number).name
 
 -- each node and point that the refusal names is one of the texts'
 abbrev pub Covers : Option Texts → Refusal → Type 0
