@@ -11,7 +11,7 @@ mod texts;
 
 ghost use Rattle.std.specs.Prelude.{◌≡◌, ◌^◌, ◌<◌, ◌≤◌, length, sum, IfOk};
 ghost use Rattle.relax_system.specs.declared.valid.TheConstants.{MOST_COORDINATE};
-ghost use Rattle.area_cut.specs.Regions.{AreShares};
+ghost use Rattle.area_cut.specs.Regions.{ArePartition, AreShares, AreWithin};
 
 use area_cut::{Axis, Regions, cut, parts_share, whole};
 use book_design::join_design;
@@ -88,7 +88,7 @@ fn measure(rt: &HostRuntime, network: &Network, grid: Grid, cuts: u32) -> io::Re
         return Err(too_large());
     }
     let start = Instant::now(rt)?;
-    let regions = cut_often(alloc, grid, &areas, &xs, &ys, cuts).map_err(wanting)?;
+    let regions = cut_often(alloc, grid, network, &areas, &xs, &ys, cuts).map_err(wanting)?;
     print_time(rt, "cuts", start)?;
     let start = Instant::now(rt)?;
     let parts = cut(alloc, &regions, &areas, &xs, &ys).map_err(wanting)?;
@@ -124,16 +124,20 @@ fn areas(alloc: Global, network: &Network) -> io::Result<Vec<u64>>
 fn cut_often(
     alloc: Global,
     grid: Grid,
+    network: &Network,
     areas: &[u64],
     xs: &[u64],
     ys: &[u64],
     cuts: u32,
 ) -> Result<Regions, Memory>
+    requires all { length areas.now ≡ length network.now.points }
     requires few { length areas.now ≤ 2 ^ 32 }
     requires xs { length xs.now ≡ length areas.now }
     requires ys { length ys.now ≡ length areas.now }
     requires fits { sum areas.now < 2 ^ 64 }
-    ensures { IfOk result (AreShares (length areas.now) MOST_COORDINATE) }
+    ensures areas { IfOk result (ArePartition (length areas.now)) }
+    ensures points { IfOk result (ArePartition (length network.now.points)) }
+    ensures within { IfOk result (AreWithin MOST_COORDINATE) }
 {
     parts_share();
     let right = MOST_MICRO + (u64::from(grid.columns) * WIDE).min(MOST_MICRO);
