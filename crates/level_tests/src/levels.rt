@@ -8,6 +8,7 @@ use area_cut::whole;
 use book_outer::OpenGate;
 use level_run::{Axis, MOST_LEVELS, Options, Solve, gap, levels, project};
 use pad_reach::reach;
+use relax_crew::MOST_SEATS;
 use relax_system::{Near, System};
 use std::test::Fail;
 
@@ -257,6 +258,7 @@ fn designs_have_levels(rt: HostRuntime) -> Result<(), Fail> {
         };
         assert!(rt; count <= MOST_LEVELS);
         for seats in SEATS {
+            assert!(rt; 1 <= seats && seats <= MOST_SEATS);
             let options = Options {
                 levels: count,
                 seats,
