@@ -1,60 +1,132 @@
 #!/usr/bin/env python3
-"""Runs programs on small random designs, and compares what they print with what levels.py finds.
+"""Runs programs on small random designs, and compares what they answer with what levels.py finds.
 
-compare_levels.py [--count N] [--seed K] PROGRAM .., by default 200 designs. Each program is run as PROGRAM --levels N AUX.
-The designs have cores from a millionth to a hundred thousand units wide, so that means round, mids tie, sides of regions come
-to 0, and sums pass 64 bits; pads inside the core and far outside, cells of no width, nets with a node twice, and weights of 0.
+compare_levels.py [--count N] [--seed K] PROGRAM .., by default 200 designs. Each program, which may have options
+behind its name, is run as PROGRAM --levels N AUX. Compared are its status, what it prints, and the placement that it makes
+beside the design, which is looked at by legal.py too.
+
+The designs have cores from a millionth to some hundred thousand units wide, so that means round, mids tie, sides of regions
+come to 0, and sums pass 64 bits; pads inside the core and far outside, cells of no width, nets with a node twice, and weights
+of 0. Rows have one or more subrows, some without sites, stand in any order, with gaps between them or in columns that are
+shifted against each other, so that wishes lie beside them all. Fixed blocks, some of them flat, cover sites in whole or in part,
+and touch others; now and then there is no room for all cells.
 """
 import argparse
+import collections
 import os
 import random
 import subprocess
 import sys
 import tempfile
 
+import legal
 import levels
+
+MOST = 1000000000000
+ORIENTS = "N", "S", "E", "W", "FN", "FS", "FE", "FW"
 
 
 def decimal(millionths):
     return f"{'-' if millionths < 0 else ''}{abs(millionths) // 1000000}.{abs(millionths) % 1000000:06}"
 
 
+def random_subrows(rng, unit, pitch, height):
+    """Subrows (x, y, sites), of which none overlap, in columns; the first one has sites."""
+    subrows, x = [], rng.choice([0, 0, -7, 3]) * unit
+    for _ in range(rng.choice([1, 1, 2, 3])):
+        sites, y = rng.randint(1, 12), rng.choice([0, 0, -5, 2]) * unit
+        for _ in range(rng.randint(1, 4)):
+            fewer = rng.randint(0, sites) if subrows and rng.random() < 0.3 else sites
+            subrows.append((x, y, fewer))
+            y += height + rng.choice([0, 0, 0, 1, height // 2, height])
+        x += pitch * sites + rng.choice([0, 0, 1, pitch // 2, 3 * pitch])
+    return subrows
+
+
+def scl_of(rng, subrows, pitch, height):
+    """The lines of `.scl`: subrows of one y share a block or have their own, and the blocks stand in any order."""
+    together = collections.defaultdict(list)
+    for number, subrow in enumerate(subrows):
+        together[subrow[1], rng.choice([0, number])].append(subrow)
+    blocks = list(together.values())
+    rng.shuffle(blocks)
+    lines = ["UCLA scl 1.0", f"NumRows : {len(blocks)}"]
+    for block in blocks:
+        lines += ["CoreRow Horizontal", f"Coordinate : {decimal(block[0][1])}", f"Height : {decimal(height)}"]
+        lines += [f"Sitewidth : {decimal(pitch)}"]
+        lines += [f"SubrowOrigin : {decimal(x)} NumSites : {sites}" for x, _, sites in block] + ["End"]
+    return lines
+
+
+def pl_of(rng, names, blocks, places):
+    """The lines of `.pl`: of each fixed node, and of some of the cells; the last line of a node counts."""
+    turned = lambda: rng.choice(["", " : N", f" : {rng.choice(ORIENTS)}"])
+    lines = []
+    for name in names:
+        if name in places:
+            x, y = places[name]
+            lines.append(f"{name} {decimal(x)} {decimal(y)}{turned()}{blocks[name]}")
+        elif rng.random() < 0.7:
+            lines += [f"{name} {rng.randint(-9, 9)} {rng.randint(-9, 9)}{turned()}" for _ in range(rng.choice([1, 1, 1, 2]))]
+    return ["UCLA pl 1.0"] + lines
+
+
 def random_design(rng):
     """The texts of a design in which a chain of nets leads from each cell to a pad."""
     unit = rng.choice([1, 1, 2, 5, 1000, 1000000, 5000000000])
-    pitch, height, rows = rng.randint(1, 3) * unit, rng.randint(1, 20) * unit, rng.randint(1, 3)
-    sites = rng.randint(1, 12)
-    width, top = pitch * sites, height * rows
-    left, bottom = rng.choice([0, 0, -7 * unit, 3 * unit]), rng.choice([0, -5 * unit])
+    pitch, height = rng.randint(1, 3) * unit, rng.randint(1, 20) * unit
+    subrows = random_subrows(rng, unit, pitch, height)
+    wide = [subrow for subrow in subrows if subrow[2] > 0]
+    left, right = min(x for x, _, _ in wide), max(x + sites * pitch for x, _, sites in wide)
+    bottom, top = min(y for _, y, _ in wide), max(y for _, y, _ in wide) + height
     cells = [f"c{i}" for i in range(rng.randint(0, 14))]
     pads = [f"p{i}" for i in range(rng.randint(1, 4))]
-    place = lambda low, side: rng.randint(low - side, low + 2 * side)
+    clear = rng.random() < 0.2
+    blocks = [] if clear else [f"b{i}" for i in range(rng.randint(0, 3))]
+    place = lambda low, side: max(-MOST, min(rng.randint(low - side, low + 2 * side), MOST))
+    on_site = lambda: rng.choice([(x + k * pitch, y) for x, y, sites in wide for k in range(sites + 1)])
+    places = {pad: (place(left, right - left), place(bottom, top - bottom)) for pad in pads}
+    places |= {block: rng.choice([on_site(), (rng.randint(left, right), rng.randint(bottom, top))]) for block in blocks}
     pins = [[rng.choice(cells[:i] + pads), cell] for i, cell in enumerate(cells)]
-    pins += [rng.choices(cells + pads, k=rng.randint(1, 5)) for _ in range(rng.randint(0, 2 * len(cells)))]
+    pins += [rng.choices(cells + pads + blocks, k=rng.randint(1, 5)) for _ in range(rng.randint(0, 2 * len(cells)))]
     rng.shuffle(pins)
     # A net of two nodes may be one of a chain, so it weighs something.
     scale, named = rng.choice([(1, 0.5), (20000, 1)])
     weights = {f"n{k}": scale * rng.choice([len(net) == 2, 1, 2, 3]) for k, net in enumerate(pins) if rng.random() < named}
     offset = lambda: rng.choice(["", " B", f" I : {decimal(rng.randint(-unit, unit))} {decimal(rng.randint(-unit, unit))}"])
-    widths = {name: rng.randint(0, 4 * pitch) for name in cells + pads}
-    marks = {pad: rng.choice([" terminal", " terminal", ""]) for pad in pads}
-    order = cells + pads
+    widest = rng.choice([1, 2, 4])
+    sizes = {cell: (rng.randint(0, widest * pitch), rng.randint(0, height)) for cell in cells}
+    sizes |= {pad: (0 if clear else rng.randint(0, pitch), rng.randint(0, height)) for pad in pads}
+    sizes |= {block: (rng.choice([0, pitch, rng.randint(0, 4 * pitch)]), rng.choice([0, height, rng.randint(0, 2 * height)]))
+              for block in blocks}
+    # A fixed node is marked in `.nodes`, in `.pl`, or in both.
+    marks = {name: rng.choice([(" terminal", " /FIXED"), (" terminal", ""), ("", " /FIXED")]) for name in pads + blocks}
+    order = cells + pads + blocks
     if rng.random() < 0.3:
         rng.shuffle(order)
-    nodes = [f"{name} {decimal(widths[name])} {decimal(rng.randint(0, height))}{marks.get(name, '')}" for name in order]
+    nodes = [f"{name} {' '.join(map(decimal, sizes[name]))}{marks.get(name, ('',))[0]}" for name in order]
     nets = [line for k, net in enumerate(pins) for line in [f"NetDegree : {len(net)} n{k}"] + [node + offset() for node in net]]
-    pl = [f"{pad} {decimal(place(left, width))} {decimal(place(bottom, top))} : N /FIXED" for pad in pads]
-    scl = [line for row in range(rows) for line in (
-        "CoreRow Horizontal", f"Coordinate : {decimal(bottom + row * height)}", f"Height : {decimal(height)}",
-        f"Sitewidth : {decimal(pitch)}", f"SubrowOrigin : {decimal(left)} NumSites : {sites}", "End")]
     return {
         "d.aux": ["RowBasedPlacement : d.nodes d.nets d.wts d.pl d.scl"],
-        "d.nodes": ["UCLA nodes 1.0", f"NumNodes : {len(order)}", f"NumTerminals : {len(pads)}"] + nodes,
+        "d.nodes": ["UCLA nodes 1.0", f"NumNodes : {len(order)}", f"NumTerminals : {len(pads + blocks)}"] + nodes,
         "d.nets": ["UCLA nets 1.0", f"NumNets : {len(pins)}", f"NumPins : {sum(map(len, pins))}"] + nets,
         "d.wts": ["UCLA wts 1.0"] + [f"{net} {weight}" for net, weight in weights.items()],
-        "d.pl": ["UCLA pl 1.0"] + pl,
-        "d.scl": ["UCLA scl 1.0", f"NumRows : {rows}"] + scl,
+        "d.pl": pl_of(rng, order, {name: mark for name, (_, mark) in marks.items()}, places),
+        "d.scl": scl_of(rng, subrows, pitch, height),
     }
+
+
+def answer_of(program, aux, number):
+    """What a program answers, in the form of levels.answer; in place of a placement that is not legal, why it is not."""
+    made = aux.removesuffix(".aux") + ".proud.pl"
+    run = subprocess.run([*program.split(), "--levels", str(number), aux], stdout=subprocess.PIPE)
+    if not os.path.exists(made):
+        return run.returncode, run.stdout, None
+    with open(made, "rb") as file:
+        placement = file.read()
+    not_legal = legal.faults(aux, made)
+    os.remove(made)
+    return run.returncode, run.stdout, not_legal or placement
 
 
 def main():
@@ -63,7 +135,7 @@ def main():
     parser.add_argument("--seed", type=int, default=1)
     parser.add_argument("programs", nargs="+")
     options = parser.parse_args()
-    failed = 0
+    failed = placed = 0
     for seed in range(options.seed, options.seed + options.count):
         rng = random.Random(seed)
         with tempfile.TemporaryDirectory() as folder:
@@ -71,13 +143,14 @@ def main():
                 with open(os.path.join(folder, name), "w") as file:
                     file.writelines(line + "\n" for line in lines)
             aux, number = os.path.join(folder, "d.aux"), rng.choice([0, 1, 2, 3, 4, 4, 12])
-            report = levels.report(aux, number)
+            due = levels.answer(aux, number)
+            placed += due[0] == 0
             for program in options.programs:
-                run = subprocess.run([program, "--levels", str(number), aux], stdout=subprocess.PIPE)
-                if run.stdout != report:
+                answer = answer_of(program, aux, number)
+                if answer != due:
                     failed += 1
-                    print(f"seed {seed}, {number} levels, {program}: {run.stdout!r} instead of {report!r}")
-    print(f"{options.count} designs, {failed} answers differ")
+                    print(f"seed {seed}, {number} levels, {program}: {answer} instead of {due}")
+    print(f"{options.count} designs, {placed} placed, {failed} answers differ")
     return min(failed, 1)
 
 

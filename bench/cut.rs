@@ -22,6 +22,7 @@ mod regions;
 use design::{Design, Net, Node, Pin};
 use network::{Network, network};
 use projection::{Projection, project};
+use readers::Orient;
 use regions::Regions;
 use std::env;
 use std::time::Instant;
@@ -36,6 +37,7 @@ fn node(width: i64, x: i64, y: i64, fixed: bool) -> Node<'static> {
         height: 0,
         x,
         y,
+        orient: Orient::N,
         fixed,
     }
 }
@@ -78,6 +80,8 @@ fn grid(rows: usize, columns: usize) -> Design<'static> {
         nodes,
         nets,
         core: [(0, columns as i64 * WIDE), (0, rows as i64 * HIGH)],
+        subrows: Vec::new(),
+        row_height: HIGH,
         pitch: 1_000_000,
     }
 }

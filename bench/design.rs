@@ -1,6 +1,6 @@
 //! A design by hand in plain Rust: the texts beside an aux file, read and joined.
 
-use crate::readers::{RowBlock, read_nets, read_nodes, read_pl, read_scl, read_wts};
+use crate::readers::{Orient, RowBlock, read_nets, read_nodes, read_pl, read_scl, read_wts};
 use std::collections::{BTreeMap, HashMap};
 use std::fs;
 use std::path::{Path, PathBuf};
@@ -20,7 +20,15 @@ pub struct Node<'a> {
     pub height: i64,
     pub x: i64,
     pub y: i64,
+    pub orient: Orient,
     pub fixed: bool,
+}
+
+/// Sites side by side, from a lower left corner on.
+pub struct Subrow {
+    pub x: i64,
+    pub y: i64,
+    pub sites: u32,
 }
 
 #[derive(Clone, Copy)]
@@ -42,6 +50,9 @@ pub struct Design<'a> {
     pub nodes: Vec<Node<'a>>,
     pub nets: Vec<Net>,
     pub core: Core,
+    /// In the order of their file.
+    pub subrows: Vec<Subrow>,
+    pub row_height: i64,
     /// The site spacing of the rows.
     pub pitch: i64,
 }
@@ -138,6 +149,7 @@ pub fn join(texts: &Texts) -> Design<'_> {
                 height: line.height,
                 x: place.map_or(0, |p| p.x),
                 y: place.map_or(0, |p| p.y),
+                orient: place.map_or(Orient::N, |p| p.orient),
                 fixed: line.fixed || place.is_some_and(|p| p.fixed),
             }
         })
@@ -158,8 +170,24 @@ pub fn join(texts: &Texts) -> Design<'_> {
         nodes,
         nets,
         core,
+        subrows: subrows_of(&rows),
+        row_height: height,
         pitch,
     }
+}
+
+fn subrows_of(rows: &[RowBlock]) -> Vec<Subrow> {
+    let in_row = |row: &RowBlock| -> Vec<Subrow> {
+        let subrows = row.subrows.iter();
+        subrows
+            .map(|subrow| Subrow {
+                x: subrow.x,
+                y: row.y,
+                sites: u32::try_from(subrow.sites).expect("few sites"),
+            })
+            .collect()
+    };
+    rows.iter().flat_map(in_row).collect()
 }
 
 fn core_of(rows: &[RowBlock]) -> Option<Core> {

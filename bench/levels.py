@@ -1,12 +1,15 @@
 #!/usr/bin/env python3
-"""What the program prints for a design, found once more: small and slow, in exact integers, straight from the rules.
+"""What the program makes of a design, found once more: small and slow, in exact integers, straight from the rules.
 
-levels.py [--levels N] AUX, by default 4 levels. It shares nothing with place_cells.rs: it sums a weight for each pair of
-points, and renews all entries of a vector at once until none moves. It tests no design: a fault in one ends in some error of
-Python. compare_levels.py runs other programs beside it.
+levels.py [--levels N] [--out FILE] AUX, by default 4 levels; FILE is by default AUX without its .aux and with .proud.pl. It
+shares nothing with place_cells.rs: it sums a weight for each pair of points, renews all entries of a vector at once until none
+moves, tests each site against each fixed node, and looks at each segment for each cell. It tests no design: a fault in one ends
+in some error of Python. compare_levels.py runs other programs beside it.
 """
 import argparse
+import itertools
 import os
+import sys
 from decimal import Decimal
 
 COUNTS = "numnodes", "numterminals", "numnets", "numpins", "numrows"
@@ -37,17 +40,20 @@ class Design:
 
     def read_nodes(self, nodes, places):
         place = {line[0]: line[1:] for line in places}
-        self.size, self.corner, self.cells = {}, {}, []
+        self.size, self.corner, self.orient, self.cells, self.fixed = {}, {}, {}, [], set()
         for name, width, height, *mark in nodes:
             at = place.get(name, ["0", "0"])
             self.size[name] = micro(width), micro(height)
             self.corner[name] = micro(at[0]), micro(at[1])
-            if not mark and at[-1].lower() != "/fixed":
+            self.orient[name] = next((word.upper() for word in at[2:] if word.lower() != "/fixed"), "N")
+            if mark or at[-1].lower() == "/fixed":
+                self.fixed.add(name)
+            else:
                 self.cells.append(name)
 
     def read_nets(self, lines, weights):
         """A net is its weight and, for each of its nodes, the offset of the node's first pin."""
-        self.nets = []
+        self.nets, self.pins = [], 0
         for line in lines:
             if line[0].lower() == "netdegree":
                 pins = {}
@@ -55,6 +61,7 @@ class Design:
             else:
                 offset = (micro(line[2]), micro(line[3])) if len(line) > 2 else (0, 0)
                 pins.setdefault(line[0], offset)
+                self.pins += 1
 
     def read_rows(self, lines):
         subrows = []
@@ -66,13 +73,13 @@ class Design:
                 subrows.append((row, micro(line[1]), int(line[3])))
             elif len(line) == 2:
                 row[key] = line[1]
-        pitch = {id(row): micro(row.get("sitespacing", row.get("sitewidth"))) for row, _, _ in subrows}
-        self.pitch = next(iter(pitch.values()))
-        subrows = [subrow for subrow in subrows if subrow[2] > 0]
-        ys = [micro(row["coordinate"]) for row, _, _ in subrows]
-        tops = [y + micro(row["height"]) for y, (row, _, _) in zip(ys, subrows)]
-        rights = [x + sites * pitch[id(row)] for row, x, sites in subrows]
-        self.core = (min(x for _, x, _ in subrows), max(rights)), (min(ys), max(tops))
+        # All rows have one height and one pitch.
+        self.height, self.pitch = micro(row["height"]), micro(row.get("sitespacing", row.get("sitewidth")))
+        self.subrows = [(x, micro(row["coordinate"]), sites) for row, x, sites in subrows]
+        wide = [subrow for subrow in self.subrows if subrow[2] > 0]
+        xs, ys = [x for x, _, _ in wide], [y for _, y, _ in wide]
+        rights = [x + sites * self.pitch for x, _, sites in wide]
+        self.core = (min(xs), max(rights)), (min(ys), max(ys) + self.height)
 
     def centre(self, name, axis):
         return self.corner[name][axis] + self.size[name][axis] // 2
@@ -173,20 +180,117 @@ def levels(network, number):
         yield solved
 
 
-def report(aux, number):
-    """The bytes that are printed for a design with so many levels."""
-    design = Design(aux)
-    found = list(levels(Network(design), number))
-    vectors = [vector for pair in found[-1] for vector in pair]
-    lines = [f"{name} {' '.join(map(str, numbers))}" for name, *numbers in zip(design.cells, *vectors)]
-    spreads = [upper - lower for solved in found for pair in solved for lower, upper in zip(*pair)]
-    lines.append(f"levels {number} gap {max(spreads, default=0)}")
+class NoRoom(Exception):
+    pass
+
+
+def share_area(one, other):
+    """Whether two rectangles, each its ends on x and on y, have a positive width and height in common."""
+    return all(max(one[axis][0], other[axis][0]) < min(one[axis][1], other[axis][1]) for axis in (0, 1))
+
+
+def segments(design):
+    """The runs of sites that share no area with a fixed node: x, y, sites."""
+    walls = [[(at, at + side) for at, side in zip(design.corner[name], design.size[name])] for name in design.fixed]
+    walls = [wall for wall in walls if all(low < high for low, high in wall)]
+    for x, y, sites in design.subrows:
+        lefts = [x + k * design.pitch for k in range(sites)]
+        free = lambda left: not any(share_area(((left, left + design.pitch), (y, y + design.height)), wall) for wall in walls)
+        for is_free, run in itertools.groupby(lefts, key=free):
+            run = list(run)
+            if is_free:
+                yield run[0], y, len(run)
+
+
+def cost(segment, pitch, sites, wish):
+    x, y, size = segment
+    return abs(wish[1] - y) + abs(wish[0] - clamp(wish[0], (x, x + (size - sites) * pitch)))
+
+
+def choices(rows, pitch, sites, wishes):
+    """The number of each cell's segment."""
+    room, chosen = [size for _, _, size in rows], {}
+    for cell in sorted(range(len(sites)), key=lambda cell: (-sites[cell], wishes[cell][1], wishes[cell][0], cell)):
+        fitting = [s for s in range(len(rows)) if room[s] >= sites[cell]]
+        if not fitting:
+            raise NoRoom(cell, sites[cell], max(room, default=0))
+        chosen[cell] = min(fitting, key=lambda s: (cost(rows[s], pitch, sites[cell], wishes[cell]), s))
+        room[chosen[cell]] -= sites[cell]
+    return chosen
+
+
+def sites_in(segment, pitch, row, sites, wishes):
+    """The first site of each cell of a row, which is in order."""
+    x, _, size = segment
+    desired = [max(0, (wishes[cell][0] - x + pitch // 2) // pitch) for cell in row]
+    width = [sites[cell] for cell in row]
+    for i in range(len(row)):
+        earliest = max(desired[j] + sum(width[j:i]) for j in range(i + 1))
+        yield min(earliest, size - sum(width[i:]))
+
+
+def corners(design, network, solved):
+    """The lower left corner of each cell."""
+    mids = [[(lower + upper) // 2 for lower, upper in zip(*pair)] for pair in solved]
+    wishes = [tuple(mids[axis][point] - design.size[name][axis] // 2 for axis in (0, 1))
+              for point, name in enumerate(design.cells)]
+    rows, sites, found = list(segments(design)), network.areas, {}
+    chosen = choices(rows, design.pitch, sites, wishes)
+    for s, segment in enumerate(rows):
+        row = sorted((cell for cell in chosen if chosen[cell] == s), key=lambda cell: (wishes[cell][0], cell))
+        for cell, site in zip(row, sites_in(segment, design.pitch, row, sites, wishes)):
+            found[design.cells[cell]] = segment[0] + site * design.pitch, segment[1]
+    return found
+
+
+def decimal(millionths):
+    whole, rest = divmod(abs(millionths), 1000000)
+    return f"{'-' if millionths < 0 else ''}{whole}" + (f".{rest:06}".rstrip("0") if rest else "")
+
+
+def placement(design, places):
+    yield "UCLA pl 1.0"
+    for name in design.size:
+        x, y = design.corner[name] if name in design.fixed else places[name]
+        yield f"{name} {decimal(x)} {decimal(y)} : {design.orient[name]}" + (" /FIXED" if name in design.fixed else "")
+
+
+def spread(found):
+    """How far two entries stand apart at most."""
+    return max((upper - lower for solved in found for pair in solved for lower, upper in zip(*pair)), default=0)
+
+
+def text(lines):
     return "".join(line + "\n" for line in lines).encode(errors="surrogateescape")
 
 
-if __name__ == "__main__":
+def answer(aux, number):
+    """For a design with so many levels: the status, the bytes that are printed, and those of the placement or None."""
+    design = Design(aux)
+    network = Network(design)
+    found = list(levels(network, number))
+    try:
+        places = corners(design, network, found[-1])
+    except NoRoom as fault:
+        cell, sites, largest = fault.args
+        return 2, text([f"proud: node {design.cells[cell]}: no room for {sites} sites, {largest} left"]), None
+    counts = f"cells {len(design.cells)} terminals {len(design.fixed)} nets {len(design.nets)} pins {design.pins}"
+    return 0, text([counts, f"levels {number} gap {spread(found)}"]), text(placement(design, places))
+
+
+def main():
     parser = argparse.ArgumentParser()
     parser.add_argument("--levels", type=int, default=4)
+    parser.add_argument("--out")
     parser.add_argument("aux")
     options = parser.parse_args()
-    os.write(1, report(options.aux, options.levels))
+    status, printed, made = answer(options.aux, options.levels)
+    if made is not None:
+        with open(options.out or options.aux.removesuffix(".aux") + ".proud.pl", "wb") as file:
+            file.write(made)
+    os.write(1, printed)
+    return status
+
+
+if __name__ == "__main__":
+    sys.exit(main())

@@ -1,7 +1,8 @@
 #!/usr/bin/env bash
 # Places designs with four cuts three times with the proved program on one seat and three times by hand with a crew of one seat,
-# in turn, compares what they print byte for byte, and prints the medians in milliseconds and their ratios. Then it times the
-# cut and the projection alone, on 200,000 points in 4,096 regions, the proved ones beside those by hand, in microseconds.
+# in turn, compares byte for byte what they print and place, and prints the medians in milliseconds and their ratios. Then it
+# times the cut and the projection alone, on 200,000 points in 4,096 regions, the proved ones beside those by hand, in
+# microseconds.
 # Usage: bench/levels.sh [AUX ..], by default a grid of 100 by 100.
 . "$(dirname "$0")/runs.sh"
 if [ $# = 0 ]; then
@@ -9,17 +10,18 @@ if [ $# = 0 ]; then
     python3 "$bench/write_grid.py" "$work/100_by_100" 100 100
     set -- "$work/100_by_100/grid.aux"
 fi
-for aux in "$@"; do
+for given in "$@"; do
+    adopt "$given"
     rm -f "$work"/*.seconds
     for _ in 1 2 3; do
         run proved "$program" --levels 4 --seats 1 "$aux"
         run by_hand "$by_hand" --tell --levels 4 --seats 1 "$aux"
-        cmp "$work/proved.told" "$work/by_hand.told"
+        same proved by_hand
     done
     a=$(median proved 1) b=$(median by_hand 1)
-    echo "$(basename "$(dirname "$aux")")/$(basename "$aux"): proved $a ms, by hand $b ms, ratio $(ratio "$a" "$b")"
+    echo "$design: proved $a ms, by hand $b ms, ratio $(ratio "$a" "$b")"
     a=$(median proved 2) b=$(median by_hand 2)
     echo "  processor time: proved $a ms, by hand $b ms, ratio $(ratio "$a" "$b")"
-    echo "  $(tail -n 1 "$work/proved.told")"
+    sed 's/^/  /' "$work/proved.told"
 done
 bash "$bench/cut.sh"

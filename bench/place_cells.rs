@@ -1,37 +1,44 @@
 //! The whole placer by hand in plain Rust, without its proofs, to measure the proved program against.
 //!
-//! `place_cells [--tell] [--levels N] [--seats N] DESIGN` reads the design beside the aux file, solves it, cuts its core N
-//! times (by default 4) and solves each level anew. It prints for each movable cell its name and its lower and upper
-//! coordinate on x and on y in the last level, and how far the two stand apart at most in any level. Without `--seats` it
-//! solves by plain sweeps; with it, by a crew of that many threads on shared words. With `--tell`, standard error gets the
-//! sweeps, or the relaxations of each seat.
+//! `place_cells [--tell] [--levels N] [--seats N] [--out FILE] DESIGN` reads the design beside the aux file, solves it, cuts
+//! its core N times (by default 4) and solves each level anew. It puts the cells on sites and writes the placement to FILE, by
+//! default to DESIGN without its `.aux` and with `.proud.pl`, and prints how much there is of what, and how far the lower and
+//! the upper coordinates stand apart at most in any level. Without `--seats` it solves by plain sweeps; with it, by a crew of
+//! that many threads on shared words. With `--tell`, standard error gets the sweeps, or the relaxations of each seat.
 //!
 //! The points lie in flat arrays, sums are in `u64` where all of a design fit, and coordinates count from the core's lower
 //! end. `place_cells.sh`, `seats.sh` and `levels.sh` build it and run it beside the proved program.
 
 mod design;
+mod legalise;
 mod network;
+mod placement;
 mod projection;
 mod readers;
 mod regions;
+mod segments;
 mod solving;
 
 use design::{Design, join, load};
+use legalise::{NoRoom, legalise};
 use network::{Fault, Network, network};
+use placement::{placement_text, report_text, wishes};
 use projection::{Sum, project};
 use regions::Regions;
+use segments::segments;
 use solving::System;
-use std::fmt::Write as _;
 use std::io::Write as _;
 use std::path::Path;
 use std::process::ExitCode;
-use std::{env, io};
+use std::{env, fs, io};
 
-/// How a run goes: how often the core is cut, with how many seats, where by a crew, and whether it tells its work.
+/// How a run goes: how often the core is cut, with how many seats, where by a crew, whether it tells its work, and
+/// where the placement goes.
 struct Way {
     levels: u32,
     seats: Option<usize>,
     tell: bool,
+    out: Option<String>,
 }
 
 /// The lower and the upper vector of an axis.
@@ -123,35 +130,35 @@ fn solve<S: Sum>(system: &System<S>, name: &str, way: &Way) -> Solved {
     }
 }
 
-fn report_of(design: &Design, network: &Network, placed: &Placed, levels: u32) -> Vec<u8> {
-    let mut report = Vec::new();
-    let mut numbers = String::new();
-    for (point, node) in network.nodes.iter().enumerate() {
-        numbers.clear();
-        for (vectors, (low, _)) in placed.last.iter().zip(design.core) {
-            for vector in vectors {
-                write!(numbers, " {}", low + vector[point] as i64).expect("room");
-            }
-        }
-        report.extend_from_slice(design.nodes[*node].name);
-        report.extend_from_slice(numbers.as_bytes());
-        report.push(b'\n');
-    }
-    writeln!(report, "levels {levels} gap {}", placed.gap).expect("room");
-    report
+/// The placement, of cells that stand on sites.
+fn placement_of(design: &Design, network: &Network, placed: &Placed) -> Result<Vec<u8>, NoRoom> {
+    let segments = segments(design);
+    let mids = [0, 1].map(|axis| halfway(&placed.last[axis]));
+    let wishes = wishes(design, network, &mids);
+    let places = legalise(&segments, design.pitch, &network.areas, &wishes)?;
+    Ok(placement_text(design, &segments, &places))
+}
+
+fn name_of(design: &Design, point: usize) -> String {
+    let node = design.nodes.iter().filter(|node| !node.fixed).nth(point);
+    String::from_utf8_lossy(node.map_or(b"", |node| node.name)).into_owned()
 }
 
 fn refusal_of(design: &Design, fault: Fault) -> String {
-    let movable = |point: usize| {
-        let node = design.nodes.iter().filter(|node| !node.fixed).nth(point);
-        String::from_utf8_lossy(node.map_or(b"", |node| node.name)).into_owned()
-    };
     match fault {
         Fault::NetTooWide(net) => format!("proud: net {net}: too wide"),
         Fault::TooManyEdges(terms) => format!("proud: too many edges: {terms}"),
-        Fault::Heavy(point) => format!("proud: node {}: too heavy", movable(point)),
-        Fault::Unanchored(point) => format!("proud: node {}: reaches no pad", movable(point)),
+        Fault::Heavy(point) => format!("proud: node {}: too heavy", name_of(design, point)),
+        Fault::Unanchored(point) => {
+            format!("proud: node {}: reaches no pad", name_of(design, point))
+        }
     }
+}
+
+fn no_room(design: &Design, fault: NoRoom) -> String {
+    let name = name_of(design, fault.cell as usize);
+    let NoRoom { sites, largest, .. } = fault;
+    format!("proud: node {name}: no room for {sites} sites, {largest} left")
 }
 
 /// The words of the command line: how to solve, and the design.
@@ -160,11 +167,13 @@ fn words() -> Option<(Way, String)> {
         levels: 4,
         seats: None,
         tell: false,
+        out: None,
     };
     let mut words = env::args().skip(1);
     loop {
         match words.next()?.as_str() {
             "--tell" => way.tell = true,
+            "--out" => way.out = Some(words.next()?),
             "--levels" => {
                 way.levels = words.next()?.parse().ok().filter(|levels| *levels <= 12)?;
             }
@@ -177,22 +186,39 @@ fn words() -> Option<(Way, String)> {
     }
 }
 
+/// The name of the placement, where none is given.
+fn placement_name(aux: &str) -> String {
+    format!("{}.proud.pl", aux.strip_suffix(".aux").unwrap_or(aux))
+}
+
+fn refused(line: &str) -> ExitCode {
+    println!("{line}");
+    ExitCode::from(2)
+}
+
 fn main() -> ExitCode {
     let Some((way, aux)) = words() else {
-        println!("usage: place_cells [--tell] [--levels N] [--seats N] DESIGN");
+        println!("usage: place_cells [--tell] [--levels N] [--seats N] [--out FILE] DESIGN");
         return ExitCode::from(1);
     };
     let texts = load(Path::new(&aux));
     let design = join(&texts);
     let network = match network(&design) {
         Ok(network) => network,
-        Err(fault) => {
-            println!("{}", refusal_of(&design, fault));
-            return ExitCode::from(2);
-        }
+        Err(fault) => return refused(&refusal_of(&design, fault)),
     };
     let placed = place(&network, &design, &way);
-    let report = report_of(&design, &network, &placed, way.levels);
-    io::stdout().write_all(&report).expect("standard output");
-    ExitCode::SUCCESS
+    let placement = match placement_of(&design, &network, &placed) {
+        Ok(placement) => placement,
+        Err(fault) => return refused(&no_room(&design, fault)),
+    };
+    let name = way.out.unwrap_or_else(|| placement_name(&aux));
+    if fs::write(name, placement).is_err() {
+        return ExitCode::from(4);
+    }
+    let report = report_text(&design, way.levels, placed.gap);
+    match io::stdout().write_all(&report) {
+        Ok(()) => ExitCode::SUCCESS,
+        Err(_) => ExitCode::from(4),
+    }
 }

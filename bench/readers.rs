@@ -36,6 +36,21 @@ pub enum Orient {
     FW,
 }
 
+impl Orient {
+    pub fn word(self) -> &'static [u8] {
+        match self {
+            Self::N => b"N",
+            Self::S => b"S",
+            Self::E => b"E",
+            Self::W => b"W",
+            Self::FN => b"FN",
+            Self::FS => b"FS",
+            Self::FE => b"FE",
+            Self::FW => b"FW",
+        }
+    }
+}
+
 pub struct PlaceLine<'a> {
     pub line: u64,
     pub name: &'a [u8],

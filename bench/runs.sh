@@ -11,12 +11,31 @@ program=$bench/../crates/proud_cli/out/proud_cli
 [ -x "$program" ] || (cd "$bench/../crates/proud_cli" && rt run >/dev/null </dev/null) || true
 [ -x "$program" ] || { echo "there is no proved program" >&2; exit 1; }
 
-# Runs a command: its seconds, and its seconds of processor time, go behind those of the runs of the same name.
+# Makes `$aux` a copy of that design, since a placement goes beside it; `$design` says which one it is.
+adopt() {
+    design=$(basename "$(dirname "$1")")/$(basename "$1")
+    rm -rf "$work/design"
+    cp -rL "$(dirname "$1")" "$work/design"
+    chmod -R u+w "$work/design"
+    aux=$work/design/$(basename "$1")
+}
+
+# Runs a command on `$aux`: its seconds, and its seconds of processor time, go behind those of the runs of the same name. What
+# it prints is kept, and its placement, or an empty file where it makes none.
 TIMEFORMAT='%R %U'
 run() {
-    local name=$1
+    local name=$1 placement=${aux%.aux}.proud.pl
     shift
+    rm -f "$placement"
     { time "$@" >"$work/$name.told" 2>"$work/$name.work" || true; } 2>>"$work/$name.seconds"
+    [ -e "$placement" ] || : >"$placement"
+    mv "$placement" "$work/$name.pl"
+}
+
+# Fails where the last runs of two names printed or placed something else.
+same() {
+    cmp "$work/$1.told" "$work/$2.told"
+    cmp "$work/$1.pl" "$work/$2.pl"
 }
 
 # The median of three runs of that name in milliseconds: of the time (1), or of the processor time (2).

@@ -1,10 +1,11 @@
 #!/usr/bin/env bash
 # Places a grid without a cut with 1, 2 and 4 seats, three times each with the proved program and with a crew by hand, in turn,
-# compares what they print byte for byte, and prints the medians in milliseconds, the speed-ups against one seat and the
-# ratios. With fewer than four processors it leaves out four seats. Usage: bench/seats.sh [SIDE], by default 100.
+# compares byte for byte what they print and place, and prints the medians in milliseconds, the speed-ups against one seat and
+# the ratios. With fewer than four processors it leaves out four seats. Usage: bench/seats.sh [SIDE], by default 100.
 . "$(dirname "$0")/runs.sh"
 side=${1-100}
 python3 "$bench/write_grid.py" "$work" "$side" "$side"
+aux=$work/grid.aux
 counts="1 2 4"
 if [ "$(nproc)" -lt 4 ]; then
     counts="1 2"
@@ -12,10 +13,10 @@ if [ "$(nproc)" -lt 4 ]; then
 fi
 for _ in 1 2 3; do
     for seats in $counts; do
-        run "proved.$seats" "$program" --levels 0 --seats "$seats" "$work/grid.aux"
-        run "by_hand.$seats" "$by_hand" --tell --levels 0 --seats "$seats" "$work/grid.aux"
-        cmp "$work/proved.$seats.told" "$work/by_hand.$seats.told"
-        cmp "$work/proved.$seats.told" "$work/proved.1.told"
+        run "proved.$seats" "$program" --levels 0 --seats "$seats" "$aux"
+        run "by_hand.$seats" "$by_hand" --tell --levels 0 --seats "$seats" "$aux"
+        same "proved.$seats" "by_hand.$seats"
+        same "proved.$seats" proved.1
     done
 done
 for seats in $counts; do

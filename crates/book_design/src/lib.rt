@@ -31,9 +31,7 @@ pub use design::Design;
 pub use fault::{DesignFault, JoinError};
 pub use join::join_design;
 pub use laws::one_join;
+pub use nodes::joined_nodes;
 pub use parts::{Core, Net, Node, Pin, Subrow};
 pub use pins::PinList;
 pub use rules::{MOST_NET_WEIGHT, MOST_NODES, MOST_PINS, MOST_SITES, MOST_SUBROWS, ROWS_END};
-
-#[cfg(test)]
-mod tests;

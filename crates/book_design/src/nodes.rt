@@ -1,6 +1,6 @@
 //! The nodes with their places.
 
-ghost use Rattle.std.specs.Prelude.{◌≡◌, ℕ, ◌<◌, ◌^◌, map, length, option_map, MatchResult};
+ghost use Rattle.std.specs.Prelude.{◌≡◌, ℕ, ◌<◌, ◌^◌, [], map, length, None, option_map, IfOk, MatchResult};
 ghost use Rattle.book_files.specs.Entries.{node_entry, place_entry};
 ghost use Rattle.book_design.specs.Records.{last_place};
 ghost use Rattle.book_design.specs.Joined.{joined_node, placed};
@@ -14,8 +14,9 @@ use crate::fault::{DesignFault, JoinError};
 use crate::numbers::{Numbers, number, place_numbers};
 use crate::parts::Node;
 use crate::sources::Sources;
-use book_files::{NodeLine, Orient, PlaceLine};
-use std::alloc::Global;
+use book_files::{NodeFile, NodeLine, Orient, PlaceFile, PlaceLine};
+use book_text::Memory;
+use std::alloc::{AllocError, Global};
 
 /// The nodes with the places that the placement file gives them last, where each terminal has one.
 pub(crate) fn join_nodes<'a>(
@@ -32,6 +33,43 @@ pub(crate) fn join_nodes<'a>(
         if node.fixed && place.is_none() {
             return Err(JoinError::Fault(DesignFault::NoPosition { node: i as u32 }));
         }
+        nodes.push(placed_node(node, place))?;
+    }
+    Ok(nodes)
+}
+
+/// The nodes alone, with the places that the placement file gives them last: those of the design that the files make, where
+/// they make one. A node without a line there stands at (0, 0).
+///
+/// It takes time n log n in the nodes and the lines.
+pub fn joined_nodes<'f, 'a>(
+    alloc: Global,
+    nodes: &'f NodeFile<'a>,
+    pl: &'f PlaceFile<'a>,
+) -> Result<Vec<Node<'a>>, Memory>
+    ensures { IfOk result (λ found. node_values found.items ≡ map (joined_node (record { nodes = nodes.now; nets = []; weights = None; places = pl.now; rows = [] })) nodes.now) }
+{
+    let records = Sources {
+        nodes: nodes.as_slice(),
+        nets: &[],
+        weights: None,
+        places: pl.as_slice(),
+        rows: &[],
+    };
+    Ok(nodes_at_places(alloc, &records)?)
+}
+
+/// The nodes with their places, where they have one.
+fn nodes_at_places<'a>(
+    alloc: Global,
+    records: &Sources<'_, 'a>,
+) -> Result<Vec<Node<'a>>, AllocError>
+    ensures { IfOk result (λ nodes. node_values nodes.items ≡ map (joined_node (records_of records.now)) (records_of records.now).nodes) }
+{
+    let numbers = place_numbers(alloc, records)?;
+    let mut nodes = Vec::new(alloc);
+    for node in records.nodes {
+        let place = place_of(records, &numbers, node.name.0);
         nodes.push(placed_node(node, place))?;
     }
     Ok(nodes)

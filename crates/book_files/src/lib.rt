@@ -43,8 +43,3 @@ pub use records::{
 pub use rows::{RowFile, Subrows, read_scl};
 pub use text::{placement_reads_back, write_pl};
 pub use weights::{WeightFile, read_wts};
-
-#[cfg(test)]
-mod outside_tests;
-#[cfg(test)]
-mod tests;

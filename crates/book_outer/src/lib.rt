@@ -28,6 +28,3 @@ pub use lists::{Calls, Files, Words};
 pub use memory::{MemFolder, MemSink};
 pub use sink::Sink;
 pub use trouble::Trouble;
-
-#[cfg(test)]
-mod tests;

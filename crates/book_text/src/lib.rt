@@ -20,6 +20,3 @@ pub use decimal::{
 pub use line::{Line, Span, count_lines, next_line, next_word, spaced_words};
 pub use memory::Memory;
 pub use number::{MOST_NUMBER_BYTES, MOST_WHOLE, NumberFault, read_whole};
-
-#[cfg(test)]
-mod tests;

@@ -20,6 +20,3 @@ pub use laws::reach_leads;
 pub use search::{ReachError, reach};
 pub use steps::Reach;
 pub use web::{MOST_POINTS, Web};
-
-#[cfg(test)]
-mod tests;

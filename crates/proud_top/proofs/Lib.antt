@@ -1,8 +1,11 @@
 mod Folders
+mod Nodes
+mod Wishing
+mod Output
+mod Placing
 mod Once
 mod OneEnd
 mod Gathering
 mod Naming
 mod Points
-mod Reporting
 mod Saying

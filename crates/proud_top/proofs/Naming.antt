@@ -1,25 +1,26 @@
 -- Texts that are read again read as the same records, and make the same design.
-use Rattle.std.proofs.Common.{◌≡◌, ◌<◌, ℕ, List, length, Result, Ok, Err, IfOk, IfSome, refl, sym, ap, subst}
+use Rattle.std.proofs.Common.{◌≡◌, ◌<◌, ◌∙◌, ℕ, List, [], length, map, Result, Ok, Err, IfOk, IfSome, sym, ap, subst}
 use Rattle.std.specs.Prelude.{Vec, Option, Some, None}
 use Rattle.std.specs.List.{count_by}
 use Rattle.std.specs.declared.alloc.Global.{Global}
 use Rattle.book_text.specs.declared.memory.Memory.{Memory as NoMemory}
 use Rattle.book_files.specs.declared.fault.ReadError.{ReadError}
 use Rattle.book_files.specs.declared.fault.ReadError.TheVariants as read_error
-use Rattle.book_files.specs.Entries.{NodeEntry, WeightEntry}
+use Rattle.book_files.specs.Entries.{NodeEntry, PlaceEntry}
 use Rattle.book_files.specs.Grammar.{Grammar, IsReading, Answers}
 use Rattle.book_files.specs.NodeRules.{nodes_grammar}
+use Rattle.book_files.specs.PlaceRules.{places_grammar}
 use Rattle.book_design.specs.Records.{Records}
-use Rattle.book_design.specs.Values.{DesignValue}
-use Rattle.book_design.specs.Answers.{IsJoined}
+use Rattle.book_design.specs.Values.{NodeValue}
+use Rattle.book_design.specs.Joined.{joined_node}
 use Rattle.book_design.specs.Points.{is_movable}
 use Rattle.proud_top.specs.declared.status.Refusal.{Refusal}
 use Rattle.proud_top.specs.declared.stop.Stop.TheVariants.{Refused}
 use Rattle.proud_top.specs.Lines.{refusal_line}
 use Rattle.proud_top.specs.Named.{node_of, point_of, IsNodeName, IsPointName, IsNameIn}
-use Rattle.proud_top.specs.Forms.Inputs.{Texts, IsSameRecords, AreWeights, AreRecords}
-use Rattle.proud_top.specs.Forms.Stops.{IsNameless, AreRecordsOf, HasNode, HasPoint, IsDesignOf, IsNameAt, IsPointNamed, IsLineOf}
-use Rattle.proud_top.proofs.Once.{OneAnswer, same_files}
+use Rattle.proud_top.specs.Forms.Inputs.{Texts, IsSameRecords, AreRecords}
+use Rattle.proud_top.specs.Forms.Stops.{IsNameless, AreRecordsOf, HasNode, HasPoint, IsNameAt, IsPointNamed, IsLineOf}
+use Rattle.proud_top.proofs.Once.{OneAnswer}
 
 -- the records as which a text reads
 pub reads_as : {I R : Type 0} (grammar : Grammar I R) (text bytes : List ℕ) (answer : Result R ReadError) (records : R) → Answers grammar (λ (file : R). file) text answer → IsSameRecords answer (Ok records) → text ≡ bytes → IsReading grammar bytes records
@@ -29,22 +30,6 @@ reads_as {R = R} grammar text bytes (Ok found) records h same e =
     subst Q e (subst P (sym same) h)
 reads_as grammar text bytes (Err (read_error.Fault fault)) records h same e = absurd same
 reads_as grammar text bytes (Err read_error.Memory) records h same e = absurd same
-
-one_weights : OneAnswer → (text : Option (List ℕ)) (a b : Option (List WeightEntry)) → AreWeights text a → AreWeights text b → a ≡ b
-one_weights one None None None h k = refl
-one_weights one None None (Some b) h k = absurd k
-one_weights one None (Some a) b h k = absurd h
-one_weights one (Some text) None b h k = absurd h
-one_weights one (Some text) (Some a) None h k = absurd k
-one_weights one (Some text) (Some a) (Some b) h k = ap Some ((one.wts text).one_reading a b h k)
-
-one_records : OneAnswer → (texts : Texts) (a b : Records) → AreRecords texts a → AreRecords texts b → a ≡ b
-one_records one texts a b h k = same_files a b
-    ((one.nodes texts.nodes).one_reading a.nodes b.nodes h.nodes k.nodes)
-    ((one.nets texts.nets).one_reading a.nets b.nets h.nets k.nets)
-    (one_weights one texts.wts a.weights b.weights h.weights k.weights)
-    ((one.pl texts.pl).one_reading a.places b.places h.places k.places)
-    ((one.scl texts.scl).one_reading a.rows b.rows h.rows k.rows)
 
 pub node_there : OneAnswer → (texts : Texts) (nodes : List NodeEntry) (number : ℕ) → IsReading nodes_grammar texts.nodes nodes → HasNode texts number → number < length nodes
 node_there one texts nodes number reading h =
@@ -61,22 +46,31 @@ node_named one texts nodes number (Ok name) reading h at =
     let own = subst P same at in
     record { records = h.records; node = own.0; read = h.read; there = own.1; named = own.2 }
 
-one_design_of : OneAnswer → (texts : Texts) (a b : DesignValue) → IsDesignOf texts a → IsDesignOf texts b → a ≡ b
-one_design_of one texts a b h k =
-    let same : h.records ≡ k.records = one_records one texts h.records k.records h.read k.read in
-    let P : Records → Type 0 = λ records. IsJoined records a in
-    (one.join k.records).one_design a b (subst P same h.joined) k.joined
+-- the nodes of the design that the lines make, with places
+abbrev pub nodes_alone : List NodeEntry → List PlaceEntry → List NodeValue
+nodes_alone nodes places = map (joined_node (record { nodes = nodes; nets = []; weights = None; places = places; rows = [] })) nodes
 
-pub point_there : OneAnswer → (texts : Texts) (design : DesignValue) (point : ℕ) → IsDesignOf texts design → HasPoint texts point → point < count_by is_movable design.nodes
-point_there one texts design point h k =
-    let same : k.design ≡ design = one_design_of one texts k.design design (record { records = k.records; read = k.read; joined = k.joined }) h in
-    let P : DesignValue → Type 0 = λ d. point < count_by is_movable d.nodes in
-    subst P same k.there
+point_nodes : OneAnswer → (texts : Texts) (nodes : List NodeEntry) (places : List PlaceEntry) (point : ℕ) → IsReading nodes_grammar texts.nodes nodes → IsReading places_grammar texts.pl places
+    → (h : HasPoint texts point) → h.design.nodes ≡ nodes_alone nodes places
+point_nodes one texts nodes places point read_nodes read_places h =
+    let same : h.records.nodes ≡ nodes = (one.nodes texts.nodes).one_reading h.records.nodes nodes h.read.nodes read_nodes in
+    let there : h.records.places ≡ places = (one.pl texts.pl).one_reading h.records.places places h.read.places read_places in
+    h.joined.joins.nodes ∙ ap (λ (list : List NodeEntry). nodes_alone list h.records.places) same ∙ ap (nodes_alone nodes) there
 
-pub point_named : (texts : Texts) (design : DesignValue) (point : ℕ) (result : Result (Vec ℕ Global) NoMemory) → IsDesignOf texts design
-    → IfOk result (λ name. IsPointNamed design name.items point) → IfOk result (λ name. IsPointName (AreRecords texts) name.items point)
-point_named texts design point (Err error) h at = tt
-point_named texts design point (Ok name) h at = record { records = h.records; design = design; number = at.number; read = h.read; joined = h.joined; node = at.node; named = at.named }
+pub point_there : OneAnswer → (texts : Texts) (nodes : List NodeEntry) (places : List PlaceEntry) (found : List NodeValue) (point : ℕ) → IsReading nodes_grammar texts.nodes nodes → IsReading places_grammar texts.pl places
+    → found ≡ nodes_alone nodes places → HasPoint texts point → point < count_by is_movable found
+point_there one texts nodes places found point read_nodes read_places is h =
+    let P : List NodeValue → Type 0 = λ list. point < count_by is_movable list in
+    subst P (point_nodes one texts nodes places point read_nodes read_places h ∙ sym is) h.there
+
+pub point_named : OneAnswer → (texts : Texts) (nodes : List NodeEntry) (places : List PlaceEntry) (found : List NodeValue) (point : ℕ) (result : Result (Vec ℕ Global) NoMemory) → IsReading nodes_grammar texts.nodes nodes
+    → IsReading places_grammar texts.pl places → found ≡ nodes_alone nodes places → HasPoint texts point
+    → IfOk result (λ name. IsPointNamed found name.items point) → IfOk result (λ name. IsPointName (AreRecords texts) name.items point)
+point_named one texts nodes places found point (Err error) read_nodes read_places is h at = tt
+point_named one texts nodes places found point (Ok name) read_nodes read_places is h at =
+    let P : List NodeValue → Type 0 = λ list. IsPointNamed list name.items point in
+    let own = subst P (is ∙ sym (point_nodes one texts nodes places point read_nodes read_places h)) at in
+    record { records = h.records; design = h.design; number = own.number; read = h.read; joined = h.joined; node = own.node; named = own.named }
 
 -- a refusal that names nothing has any name
 pub nameless : {P : Records → Type 0} (refusal : Refusal) (name : List ℕ) → IsNameless refusal → IsNameIn P refusal name

@@ -22,11 +22,14 @@ use Rattle.net_model.specs.Values.{NetworkValue}
 use Rattle.net_model.specs.Answers.{HasOneNetwork}
 use Rattle.level_run.specs.declared.level.Level.{Level}
 use Rattle.level_run.specs.Levels.{IsLevels, IsGap}
+use Rattle.row_space.specs.Values.{SegmentsValue}
+use Rattle.row_legal.specs.Cells.{CellsValue}
+use Rattle.row_legal.specs.OneAnswer.{HasOneAnswerAtMost}
 use Rattle.proud_top.specs.Request.{beside}
 use Rattle.proud_top.specs.Order.{rank, name_of}
 use Rattle.proud_top.specs.Accepted.{Reads, ReadsWeights, Accepts, IsReadable, IsAccepted, IsNextFile, IsFaultOf, IsTooLong, IsBadText}
 
--- what the laws of the readers, of the join, of the network and of the levels say
+-- what the laws of the readers, of the join, of the network, of the levels and of the greedy rule say
 pub record OneAnswer : Type 0 where
   pub aux : (text : List ℕ) → HasOneAnswer aux_grammar text
   pub nodes : (text : List ℕ) → HasOneAnswer nodes_grammar text
@@ -38,6 +41,7 @@ pub record OneAnswer : Type 0 where
   pub network : (design : DesignValue) → HasOneNetwork design
   pub levels : (network : NetworkValue) (count : ℕ) (a b : List Level) → IsLevels network count a → IsLevels network count b → a ≡ b
   pub gap : (levels : List Level) (a b : ℕ) → IsGap levels a → IsGap levels b → a ≡ b
+  pub greedy : (rows : SegmentsValue) (cells : CellsValue) → HasOneAnswerAtMost rows cells
 
 pub one_text : (a b : List ℕ) → Some a ≡ Some b → a ≡ b
 one_text a b e = cc

@@ -1,8 +1,8 @@
 -- The flow has one end at most: each step has one answer, so the steps one behind another have one.
-use Rattle.std.proofs.Common.{◌≡◌, ◌⊎◌, ◌<◌, ◌≤◌, ℕ, List, length, refl, sym, ◌∙◌, ap, subst, inl, inr, arith}
+use Rattle.std.proofs.Common.{◌≡◌, ◌⊎◌, ◌<◌, ◌≤◌, ℕ, List, [], length, refl, sym, ◌∙◌, ap, subst, inl, inr, arith}
 use Rattle.std.specs.Prelude.{Some, Result, Ok, Err}
 use Rattle.std.proofs.lemmas.Bool.{cases_order}
-use Rattle.std.proofs.lemmas.List.{length-map}
+use Rattle.std.proofs.lemmas.List.{length-map, ext_get_or}
 use Rattle.book_outer.specs.Files.{FileEntry, content}
 use Rattle.book_files.specs.declared.records.FileKind.{FileKind}
 use Rattle.book_files.specs.declared.fault.TextFault.{TextFault}
@@ -10,18 +10,29 @@ use Rattle.book_files.specs.Entries.{AuxEntry}
 use Rattle.book_files.specs.declared.loading.TheConstants.{MOST_BYTES}
 use Rattle.book_design.specs.Records.{Records}
 use Rattle.book_design.specs.Values.{NodeValue, DesignValue}
+use Rattle.book_design.specs.Points.{IsNodeOf}
 use Rattle.pad_reach.specs.Chain.{Joint, HasChain}
 use Rattle.pad_reach.specs.Reaches.{IsFirstUnanchored}
 use Rattle.net_model.specs.Values.{NetworkValue}
 use Rattle.net_model.specs.Webs.{joints_of}
 use Rattle.level_run.specs.declared.level.Level.{Level}
-use Rattle.level_run.specs.Levels.{level_at}
+use Rattle.level_run.specs.Levels.{IsLevels, level_at}
+use Rattle.row_space.specs.Values.{SegmentsValue}
+use Rattle.row_space.specs.Runs.{segments_of}
+use Rattle.row_legal.specs.declared.parts.Place.{Place}
+use Rattle.row_legal.specs.declared.parts.Wish.{Wish}
+use Rattle.row_legal.specs.Cells.{CellsValue}
+use Rattle.row_legal.specs.Places.{IsLegalised}
+use Rattle.row_legal.specs.Answers.{HasNoRoom}
+use Rattle.row_legal.specs.Spots.{AreSitesOf}
 use Rattle.proud_top.specs.declared.status.Refusal.{Refusal}
-use Rattle.proud_top.specs.declared.status.Refusal.TheVariants.{TooLong, Text, Design, Net, Unanchored}
+use Rattle.proud_top.specs.declared.status.Refusal.TheVariants.{TooLong, Text, Design, Net, Unanchored, NoRoom}
 use Rattle.proud_top.specs.Accepted.{Accepts, IsFaultOf, IsTooLong, IsBadText}
 use Rattle.proud_top.specs.Request.{RequestValue}
+use Rattle.proud_top.specs.Wishes.{AreWishes, AreCells, wish_in}
 use Rattle.proud_top.specs.Report.{report_of, IsReportOf}
-use Rattle.proud_top.specs.Flow.{◌then◌, reads_known, reads, joins, wires, reaches, solves, reports, places_records, places}
+use Rattle.proud_top.specs.Flow.{PlacedValue, ◌then◌, reads_known, reads, joins, wires, reaches, solves, spaces, wishes, legalises, writes, reports, places_levels, places_records, places}
+use Rattle.proud_top.proofs.Nodes.{node_there}
 use Rattle.proud_top.proofs.Once.{OneAnswer, one_text, long_stops, bad_stops, next_once, stops_once, accepts_all, accepts_once, fault_once}
 
 -- a step has one answer at most
@@ -77,6 +88,7 @@ open_unread files word (Text kind fault) h = bad kind fault refl h
 open_unread files word (Design fault) h = absurd h
 open_unread files word (Net fault) h = absurd h
 open_unread files word (Unanchored point) h = absurd h
+open_unread files word (NoRoom cell sites largest) h = absurd h
 
 -- a file that is too long has no first fault that is named
 long_or_bad : OneAnswer → (files : List FileEntry) (word : List ℕ) (a b : FileKind) (fault : TextFault) → IsTooLong files word a → IsBadText files word b fault → ⊥
@@ -114,6 +126,29 @@ one_unread one files word a b (bad x f e l) (long y d m) = absurd (long_or_bad o
 read_or_unread : OneAnswer → (files : List FileEntry) (word : List ℕ) (names : AuxEntry) (records : Records) (refusal : Refusal) → Accepts files word names records → Unread files word refusal → ⊥
 read_or_unread one files word names records refusal a (long kind e l) = accepts_all one files word names records kind a (long_stops files word kind l)
 read_or_unread one files word names records refusal a (bad kind fault e b) = accepts_all one files word names records kind a (bad_stops files word kind fault b)
+
+-- the sites and the wishes of the points are one list each
+one_sites : (design : DesignValue) (a b : List ℕ) → AreSitesOf design a → AreSitesOf design b → a ≡ b
+one_sites design a b h k = ext_get_or 0 a b (h.all ∙ sym k.all) (λ p inside.
+    let node = node_there design.nodes p (omega (arith, inside, h.all)) in
+    h.each p node.0 node.1 ∙ sym (k.each p node.0 node.1))
+
+one_wish : (design : DesignValue) (level : Level) (a b : List Wish) → AreWishes design level a → AreWishes design level b → a ≡ b
+one_wish design level a b h k = ext_get_or (wish_in [] 0) a b (h.all ∙ sym k.all) (λ p inside.
+    let node = node_there design.nodes p (omega (arith, inside, h.all)) in
+    h.each p node.0 node.1 ∙ sym (k.each p node.0 node.1))
+
+one_cells : (design : DesignValue) (level : Level) (x y : CellsValue) → AreCells design level x → AreCells design level y → x ≡ y
+one_cells design level x y h k =
+    let P : List ℕ → Type 0 = λ sites. x ≡ record { sites = sites; wishes = x.wishes } in
+    let Q : List Wish → Type 0 = λ wishes. x ≡ record { sites = y.sites; wishes = wishes } in
+    subst Q (one_wish design level x.wishes y.wishes h.wishes k.wishes) (subst P (one_sites design x.sites y.sites h.sites k.sites) refl)
+
+-- and two refusals for want of room are one
+one_stuck : OneAnswer → (rows : SegmentsValue) (cells : CellsValue) (c d s t l m : ℕ) → HasNoRoom rows cells c s l → HasNoRoom rows cells d t m → NoRoom c s l ≡ NoRoom d t m
+one_stuck one rows cells c d s t l m h k =
+    let same = (one.greedy rows cells).one_end c d s t l m h k in
+    ap (λ (x : ℕ). NoRoom x s l) same.0 ∙ ap (λ (x : ℕ). NoRoom d x l) same.1 ∙ ap (λ (x : ℕ). NoRoom d t x) same.2
 
 -- one line a step
 pub one_reads : OneAnswer → (files : List FileEntry) (word : List ℕ) (a b : Result Records Refusal) → reads (Some files) word a → reads (Some files) word b → a ≡ b
@@ -154,43 +189,106 @@ one_solves one network count (Ok a) (Ok b) h k = ap Ok (one.levels network count
 one_solves one network count (Ok a) (Err q) h k = absurd k
 one_solves one network count (Err r) b h k = absurd h
 
+-- the rows of a design have one list of segments
+pub one_spaces : (design : DesignValue) (a b : Result SegmentsValue Refusal) → spaces design a → spaces design b → a ≡ b
+one_spaces design (Ok x) (Ok y) h k = ap Ok (h ∙ sym k)
+one_spaces design (Ok x) (Err q) h k = absurd k
+one_spaces design (Err r) b h k = absurd h
+
+-- its cells wish one thing each
+pub one_wishes : (design : DesignValue) (count : ℕ) (levels : List Level) (a b : Result CellsValue Refusal) → wishes design count levels a → wishes design count levels b → a ≡ b
+one_wishes design count levels (Ok x) (Ok y) h k = ap Ok (one_cells design (level_at levels count) x y h k)
+one_wishes design count levels (Ok x) (Err q) h k = absurd k
+one_wishes design count levels (Err r) b h k = absurd h
+
+-- the greedy rule ends in one way
+pub one_legalises : OneAnswer → (rows : SegmentsValue) (cells : CellsValue) (a b : Result (List Place) Refusal) → legalises rows cells a → legalises rows cells b → a ≡ b
+one_legalises one rows cells (Ok x) (Ok y) h k = ap Ok ((one.greedy rows cells).one_list x y h k)
+one_legalises one rows cells (Ok x) (Err q) h (c, s, l, e, k) = absurd ((one.greedy rows cells).not_both x c s l h k)
+one_legalises one rows cells (Err r) (Ok y) (c, s, l, e, h) k = absurd ((one.greedy rows cells).not_both y c s l k h)
+one_legalises one rows cells (Err r) (Err q) (c, s, l, e, h) (d, t, m, f, k) = ap Err (e ∙ one_stuck one rows cells c d s t l m h k ∙ sym f)
+
+pub one_writes : (design : DesignValue) (rows : SegmentsValue) (places : List Place) (a b : Result (List ℕ) Refusal) → writes design rows places a → writes design rows places b → a ≡ b
+one_writes design rows places (Ok x) (Ok y) h k = ap Ok (h ∙ sym k)
+one_writes design rows places (Ok x) (Err q) h k = absurd k
+one_writes design rows places (Err r) b h k = absurd h
+
 -- and levels have one gap
-one_report : OneAnswer → (nodes : List NodeValue) (count : ℕ) (levels : List Level) (s t : List ℕ) → IsReportOf nodes count levels s → IsReportOf nodes count levels t → s ≡ t
-one_report one nodes count levels s t h k =
-    h.lines ∙ ap (λ (gap : ℕ). report_of nodes (level_at levels count) count gap) (one.gap levels h.gap k.gap h.is_gap k.is_gap) ∙ sym k.lines
+one_report : OneAnswer → (design : DesignValue) (count : ℕ) (levels : List Level) (s t : List ℕ) → IsReportOf design count levels s → IsReportOf design count levels t → s ≡ t
+one_report one design count levels s t h k =
+    h.lines ∙ ap (λ (gap : ℕ). report_of design count gap) (one.gap levels h.gap k.gap h.is_gap k.is_gap) ∙ sym k.lines
 
-pub one_reports : OneAnswer → (design : DesignValue) (count : ℕ) (levels : List Level) (a b : Result (List ℕ) Refusal) → reports design count levels a → reports design count levels b → a ≡ b
-one_reports one design count levels (Ok s) (Ok t) h k = ap Ok (one_report one design.nodes count levels s t h k)
-one_reports one design count levels (Ok s) (Err q) h k = absurd k
-one_reports one design count levels (Err r) b h k = absurd h
+both_texts : (a b : PlacedValue) → a.file ≡ b.file → a.report ≡ b.report → a ≡ b
+both_texts a b e f =
+    let P : List ℕ → Type 0 = λ file. a ≡ record { file = file; report = a.report } in
+    let Q : List ℕ → Type 0 = λ report. a ≡ record { file = b.file; report = report } in
+    subst Q f (subst P e refl)
 
-abbrev from_solves : ℕ → DesignValue → NetworkValue → Result (List ℕ) Refusal → Type 0
-from_solves count design network = solves network count then λ levels. reports design count levels
+pub one_reports : OneAnswer → (design : DesignValue) (count : ℕ) (levels : List Level) (file : List ℕ) (a b : Result PlacedValue Refusal) → reports design count levels file a → reports design count levels file b → a ≡ b
+one_reports one design count levels file (Ok s) (Ok t) h k = ap Ok (both_texts s t (h.0 ∙ sym k.0) (one_report one design count levels s.report t.report h.1 k.1))
+one_reports one design count levels file (Ok s) (Err q) h k = absurd k
+one_reports one design count levels file (Err r) b h k = absurd h
 
-abbrev from_reaches : ℕ → DesignValue → NetworkValue → Result (List ℕ) Refusal → Type 0
-from_reaches count design network = reaches network then λ done. solves network count then λ levels. reports design count levels
+abbrev from_places : ℕ → DesignValue → List Level → SegmentsValue → List Place → Result PlacedValue Refusal → Type 0
+from_places count design levels rows places = writes design rows places then λ file. reports design count levels file
 
-abbrev from_wires : ℕ → DesignValue → Result (List ℕ) Refusal → Type 0
-from_wires count design = wires design then λ network. reaches network then λ done. solves network count then λ levels. reports design count levels
+abbrev from_cells : ℕ → DesignValue → List Level → SegmentsValue → CellsValue → Result PlacedValue Refusal → Type 0
+from_cells count design levels rows cells = legalises rows cells then λ places. writes design rows places then λ file. reports design count levels file
 
-pub one_end : OneAnswer → (files : List FileEntry) (request : RequestValue) (a b : Result (List ℕ) Refusal) → places (Some files) request a → places (Some files) request b → a ≡ b
+abbrev from_spaces : ℕ → DesignValue → List Level → SegmentsValue → Result PlacedValue Refusal → Type 0
+from_spaces count design levels rows = wishes design count levels then λ cells. legalises rows cells then λ places. writes design rows places then λ file. reports design count levels file
+
+abbrev from_reaches : ℕ → DesignValue → NetworkValue → Result PlacedValue Refusal → Type 0
+from_reaches count design network = solves network count then λ levels. places_levels count design levels
+
+abbrev from_network : ℕ → DesignValue → NetworkValue → Result PlacedValue Refusal → Type 0
+from_network count design network = reaches network then λ done. solves network count then λ levels. places_levels count design levels
+
+abbrev from_design : ℕ → DesignValue → Result PlacedValue Refusal → Type 0
+from_design count design = wires design then λ network. reaches network then λ done. solves network count then λ levels. places_levels count design levels
+
+pub one_end : OneAnswer → (files : List FileEntry) (request : RequestValue) (a b : Result PlacedValue Refusal) → places (Some files) request a → places (Some files) request b → a ≡ b
 one_end one files request =
     let count = request.levels in
     one_then (reads (Some files) request.design) (places_records count) (one_reads one files request.design) (λ records.
-    one_then (joins records) (from_wires count) (one_joins one records) (λ design.
-    one_then (wires design) (from_reaches count design) (one_wires one design) (λ network.
-    one_then (reaches network) (λ done. from_solves count design network) (one_reaches network) (λ done.
-    one_then (solves network count) (reports design count) (one_solves one network count) (one_reports one design count)))))
+    one_then (joins records) (from_design count) (one_joins one records) (λ design.
+    one_then (wires design) (from_network count design) (one_wires one design) (λ network.
+    one_then (reaches network) (λ done. from_reaches count design network) (one_reaches network) (λ done.
+    one_then (solves network count) (places_levels count design) (one_solves one network count) (λ levels.
+    one_then (spaces design) (from_spaces count design levels) (one_spaces design) (λ rows.
+    one_then (wishes design count levels) (from_cells count design levels rows) (one_wishes design count levels) (λ cells.
+    one_then (legalises rows cells) (from_places count design levels rows) (one_legalises one rows cells) (λ sites.
+    one_then (writes design rows sites) (reports design count levels) (one_writes design rows sites) (one_reports one design count levels)))))))))
+
+-- where the greedy rule finds room for each cell, nothing behind the levels is refused
+never_stuck : OneAnswer → (count : ℕ) (design : DesignValue) (levels : List Level) (refusal : Refusal)
+    → ((cells : CellsValue) → AreCells design (level_at levels count) cells → (sites : List Place) × IsLegalised (segments_of design) cells sites)
+    → places_levels count design levels (Err refusal) → ⊥
+never_stuck one count design levels refusal room flow =
+    by_wishes (through (spaces design) (from_spaces count design levels) (segments_of design) (Err refusal) (one_spaces design) refl flow) where
+      by_report : (rows : SegmentsValue) (sites : List Place) → from_places count design levels rows sites (Err refusal) → ⊥
+      by_report rows sites (inl none) = none
+      by_report rows sites (inr (file, is, none)) = none
+
+      by_room : (cells : CellsValue) → AreCells design (level_at levels count) cells → from_cells count design levels (segments_of design) cells (Err refusal) → ⊥
+      by_room cells are (inl (c, s, l, e, stuck)) = let placed = room cells are in (one.greedy (segments_of design) cells).not_both placed.0 c s l placed.1 stuck
+      by_room cells are (inr (sites, is, rest)) = by_report (segments_of design) sites rest
+
+      by_wishes : from_spaces count design levels (segments_of design) (Err refusal) → ⊥
+      by_wishes (inl none) = none
+      by_wishes (inr (cells, are, rest)) = by_room cells are rest
 
 -- what is placed is refused for nothing
 pub never_refused : OneAnswer → (files : List FileEntry) (request : RequestValue) (names : AuxEntry) (records : Records) (design : DesignValue) (network : NetworkValue) (refusal : Refusal)
     → Accepts files request.design names records → joins records (Ok design) → wires design (Ok network) → ((p : ℕ) → p < length network.points → HasChain (joints_of network) p)
+    → ((levels : List Level) (cells : CellsValue) → IsLevels network request.levels levels → AreCells design (level_at levels request.levels) cells → (sites : List Place) × IsLegalised (segments_of design) cells sites)
     → places (Some files) request (Err refusal) → ⊥
-never_refused one files request names records design network refusal accepted joined wired chains flow =
-    let behind_files = through (reads (Some files) request.design) (places_records request.levels) records (Err refusal) (one_reads one files request.design) (names, accepted) flow in
-    let behind_join = through (joins records) (from_wires request.levels) design (Err refusal) (one_joins one records) joined behind_files in
-    let behind_wires = through (wires design) (from_reaches request.levels design) network (Err refusal) (one_wires one design) wired behind_join in
-    none (through (reaches network) (λ done. from_solves request.levels design network) tt (Err refusal) (one_reaches network) chains behind_wires) where
-      none : from_solves request.levels design network (Err refusal) → ⊥
+never_refused one files request names records design network refusal accepted joined wired chains room flow =
+    let count = request.levels in
+    let behind_files = through (reads (Some files) request.design) (places_records count) records (Err refusal) (one_reads one files request.design) (names, accepted) flow in
+    let behind_join = through (joins records) (from_design count) design (Err refusal) (one_joins one records) joined behind_files in
+    let behind_wires = through (wires design) (from_network count design) network (Err refusal) (one_wires one design) wired behind_join in
+    none (through (reaches network) (λ done. from_reaches count design network) tt (Err refusal) (one_reaches network) chains behind_wires) where
+      none : from_reaches request.levels design network (Err refusal) → ⊥
       none (inl h) = h
-      none (inr (levels, is, h)) = h
+      none (inr (levels, is, rest)) = never_stuck one request.levels design levels refusal (λ cells are. room levels cells is.levels_are are) rest

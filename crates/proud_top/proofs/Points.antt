@@ -1,10 +1,9 @@
--- As many points as movable nodes: in the network of a design, in the solutions of its systems, and among the names of the report.
-use Rattle.std.proofs.Common.{◌≡◌, ℕ, zero, suc, ◌+◌, ◌<◌, ◌≤◌, Bool, true, false, cond, List, [], ◌∷◌, ◌++◌, length, map, refl, sym, ◌∙◌, ap, subst, arith, length-append, zero-add, add-one}
-use Rattle.std.specs.Prelude.{filter, pos}
+-- As many points as movable nodes: in the network of a design, and in the solutions of its systems, whose entries are coordinates.
+use Rattle.std.proofs.Common.{◌≡◌, ℕ, zero, suc, ◌+◌, ◌/◌, ◌<◌, ◌≤◌, Bool, true, false, cond, List, [], ◌∷◌, ◌++◌, length, map, refl, sym, ◌∙◌, ap, subst, arith, length-append, zero-add, add-one}
+use Rattle.std.specs.Prelude.{filter, pos, slice_index}
 use Rattle.std.specs.List.{range_with_len, count_by}
 use Rattle.std.proofs.lemmas.List.{length-map}
-use Rattle.std.proofs.lemmas.List.FromFn.{filter_of_map_range_with_len_more, length-map-range_with_len}
-use Rattle.std.proofs.lemmas.List.Recursion.{is_count_by}
+use Rattle.std.proofs.lemmas.List.FromFn.{filter_of_map_range_with_len_more, length-map-range_with_len, get_or-map-range_with_len}
 use Rattle.std.proofs.lemmas.List.Sums.{count_by_more_yes, count_by_more_no}
 use Rattle.std.proofs.Math.Seq.{take-length}
 use Rattle.book_files.specs.declared.orient.Orient.TheVariants.{N}
@@ -19,11 +18,13 @@ use Rattle.area_cut.specs.declared.region.Region.{Region}
 use Rattle.level_run.specs.declared.level.Solve.{Solve}
 use Rattle.level_run.specs.declared.level.Level.{Level}
 use Rattle.level_run.specs.LevelSystem.{level_point, level_system}
-use Rattle.level_run.specs.Levels.{IsSolve, IsLevel, IsLevels, no_level, level_at}
+use Rattle.level_run.specs.Levels.{IsSolve, IsLevel, IsLevels, next_regions, no_level, level_at, solve_on, mids_before, system_of}
 use Rattle.pad_reach.specs.Reaches.{IsFirstUnanchored}
 use Rattle.net_model.specs.Webs.{joints_of}
-use Rattle.proud_top.specs.Report.{names_of}
-use Rattle.proud_top.specs.Forms.Over.{IsOver, IsLastOver}
+use Rattle.relax_system.specs.declared.points.Point.{Point}
+use Rattle.relax_system.specs.declared.valid.TheConstants.{MOST_COORDINATE}
+use Rattle.relax_system.specs.System.{IsValid}
+use Rattle.proud_top.specs.Forms.Over.{IsOver, IsBothOver, IsLastOver}
 
 -- what stands past the end
 abbrev no_node : NodeValue
@@ -69,45 +70,73 @@ network_counted : (design : DesignValue) (network : NetworkValue) → IsNetwork 
 network_counted design network h =
     ap (λ (n : NetworkValue). length n.points) h.made ∙ length-map-range_with_len (point_value design) 0 (length (point_nodes design)) ∙ points_counted design
 
--- and the names of the report
-names_counted : (nodes : List NodeValue) → length (names_of nodes) ≡ count_by is_movable nodes
-names_counted nodes = is_count_by (λ rest. length (names_of rest)) is_movable refl (λ node rest. by_test node rest node.fixed refl) nodes where
-  by_test : (node : NodeValue) (rest : List NodeValue) (b : Bool) → node.fixed ≡ b
-      → length (names_of (node ∷ rest)) ≡ cond (is_movable node) (1 + length (names_of rest)) (length (names_of rest))
-  by_test node rest true e = rw e refl
-  by_test node rest false e = rw e (let same : suc (length (names_of rest)) ≡ 1 + length (names_of rest) = omega arith in same)
+-- a half of two that are at most so much is at most so much
+half_most : (a b m : ℕ) → a ≤ m → b ≤ m → (a + b) / 2 ≤ m
+half_most a b m le le' = omega arith
 
--- a solve of a level has an entry for each point
-solve_over : (axis : Axis) (network : NetworkValue) (regions : List Region) (mids : List ℕ) (solve : Solve) → IsSolve (level_system axis network regions mids) solve → IsOver (length network.points) solve
-solve_over axis network regions mids solve h =
-    let points = length-map-range_with_len (level_point axis network regions mids) 0 (length network.points) in
-    record { lo = h.lo.in_boxes.all ∙ points; hi = h.hi.in_boxes.all ∙ points }
+-- a solve of a valid system has a mid for each point, which is a coordinate
+solve_over : (points : List Point) (solve : Solve) → IsValid points → IsSolve points solve → IsOver (length points) solve
+solve_over points solve valid h =
+    let halves : ℕ → ℕ = λ i. (slice_index solve.lo i + slice_index solve.hi i) / 2 in
+    record {
+      all = ap length h.mid ∙ length-map-range_with_len halves 0 (length solve.lo) ∙ h.lo.in_boxes.all;
+      near = λ p there.
+          let inside : p < length solve.lo = omega (arith, there, h.lo.in_boxes.all) in
+          let mid : slice_index solve.mid p ≡ halves p = ap (λ (xs : List ℕ). slice_index xs p) h.mid ∙ get_or-map-range_with_len halves 0 (length solve.lo) p p 0 inside (zero-add p) in
+          let limit = (valid.each p there).limit in
+          let lo = h.lo.in_boxes.high p there in
+          let hi = h.hi.in_boxes.high p there in
+          let P : ℕ → Type 0 = λ m. m ≤ MOST_COORDINATE in
+          subst P (sym mid) (half_most (slice_index solve.lo p) (slice_index solve.hi p) MOST_COORDINATE (omega (arith, lo, limit)) (omega (arith, hi, limit)));
+    }
 
-record IsBothOver (points : ℕ) (level : Level) : Type 0 where
-  pub x : IsOver points level.x
-  pub y : IsOver points level.y
+-- the mids on an axis
+abbrev mids_on : Axis → List ℕ → List ℕ → List ℕ
+mids_on X xs ys = xs
+mids_on Y xs ys = ys
 
-both_over : (network : NetworkValue) (regions : List Region) (xs ys : List ℕ) (level : Level) → IsLevel network regions xs ys level → IsBothOver (length network.points) level
-both_over network regions xs ys level h = record {
-  x = solve_over X network regions xs level.x h.x;
-  y = solve_over Y network regions ys level.y h.y;
-}
+-- the solves of a level are those of its systems
+solves_on : (axis : Axis) (network : NetworkValue) (over : List Region) (xs ys : List ℕ) (level : Level) → IsLevel network over xs ys level
+    → IsSolve (level_system axis network level.regions (mids_on axis xs ys)) (solve_on axis level)
+solves_on X network over xs ys level h =
+    let P : List Region → Type 0 = λ regions. IsSolve (level_system X network regions xs) level.x in
+    subst P (sym h.regions) h.x
+solves_on Y network over xs ys level h =
+    let P : List Region → Type 0 = λ regions. IsSolve (level_system Y network regions ys) level.y in
+    subst P (sym h.regions) h.y
 
-level_over : (network : NetworkValue) (count : ℕ) (levels : List Level) → IsLevels network count levels → (k : ℕ) → k ≤ count → IsBothOver (length network.points) (level_at levels k)
-level_over network count levels h zero within = both_over network _ _ _ (level_at levels 0) (h.first no_level)
-level_over network count levels h (suc k) within =
+solves_at : (axis : Axis) (network : NetworkValue) (count : ℕ) (levels : List Level) → IsLevels network count levels → (k : ℕ) → k ≤ count
+    → IsSolve (system_of axis network levels k) (solve_on axis (level_at levels k))
+solves_at X network count levels h zero within = solves_on X network _ _ _ (level_at levels 0) (h.first no_level)
+solves_at Y network count levels h zero within = solves_on Y network _ _ _ (level_at levels 0) (h.first no_level)
+solves_at axis network count levels h (suc k) within =
     let more : k + 1 ≡ suc k = omega arith in
-    let P : ℕ → Type 0 = λ j. IsBothOver (length network.points) (level_at levels j) in
-    subst P more (both_over network _ _ _ (level_at levels (k + 1)) (h.next k no_level (omega arith)))
+    let P : ℕ → Type 0 = λ j. IsLevel network (next_regions network (level_at levels k)) (level_at levels k).x.mid (level_at levels k).y.mid (level_at levels j) in
+    behind axis network levels k (subst P more (h.next k no_level (omega arith))) where
+      behind : (axis : Axis) (network : NetworkValue) (levels : List Level) (k : ℕ)
+          → IsLevel network (next_regions network (level_at levels k)) (level_at levels k).x.mid (level_at levels k).y.mid (level_at levels (suc k))
+          → IsSolve (system_of axis network levels (suc k)) (solve_on axis (level_at levels (suc k)))
+      behind X network levels k next = solves_on X network _ _ _ (level_at levels (suc k)) next
+      behind Y network levels k next = solves_on Y network _ _ _ (level_at levels (suc k)) next
 
--- and the last level one for each name of the report
-pub last_over : (design : DesignValue) (network : NetworkValue) (count : ℕ) (levels : List Level) → IsNetwork design network → IsLevels network count levels → IsLastOver (length (names_of design.nodes)) count levels
-last_over design network count levels made h =
-    let points = network_counted design network made ∙ sym (names_counted design.nodes) in
-    let P : ℕ → Type 0 = λ n. IsBothOver n (level_at levels count) in
-    let over = subst P points (level_over network count levels h count (omega arith)) in
+-- the last level is over the points of its network, where its systems are valid
+pub last_over : (network : NetworkValue) (count : ℕ) (levels : List Level) → ((axis : Axis) → IsValid (system_of axis network levels count)) → IsLevels network count levels
+    → IsLastOver (length network.points) count levels
+last_over network count levels valid h =
     let many = h.many in
-    record { there = omega arith; x = over.x; y = over.y }
+    record { there = omega arith; last = record { x = on X; y = on Y } } where
+      on : (axis : Axis) → IsOver (length network.points) (solve_on axis (level_at levels count))
+      on axis =
+          let points = length-map-range_with_len (level_point axis network (level_at levels count).regions (mids_before axis network levels count)) 0 (length network.points) in
+          let P : ℕ → Type 0 = λ n. IsOver n (solve_on axis (level_at levels count)) in
+          subst P points (solve_over (system_of axis network levels count) (solve_on axis (level_at levels count)) (valid axis) (solves_at axis network count levels h count (omega arith)))
+
+-- and so over the movable nodes of the design
+pub over_cells : (design : DesignValue) (network : NetworkValue) (count : ℕ) (levels : List Level) → IsNetwork design network → IsLastOver (length network.points) count levels
+    → IsLastOver (count_by is_movable design.nodes) count levels
+over_cells design network count levels made h =
+    let P : ℕ → Type 0 = λ n. IsLastOver n count levels in
+    subst P (network_counted design network made) h
 
 -- a point that is too heavy, and one from which no chain leads, are points of the design
 pub heavy_there : (design : DesignValue) (point : ℕ) → IsFirstFault design (Heavy point) → point < count_by is_movable design.nodes

@@ -1,9 +1,9 @@
 -- From what is due, and what the put of it answered, to what the status says; and what that leaves possible.
-use Rattle.std.proofs.Common.{◌≡◌, ◌⊎◌, ◌++◌, ◌∷◌, ℕ, List, [], refl, sym, ◌∙◌, ap, subst, inl, inr}
-use Rattle.std.specs.Prelude.{Option, Some, None, IfSome, Result, Ok, Err}
+use Rattle.std.proofs.Common.{◌≡◌, ◌⊎◌, ℕ, List, refl, sym, ◌∙◌, ap, subst, inl, inr}
+use Rattle.std.specs.Prelude.{Option, Some, None, IfSome, Result, Ok, Err, take, option_map}
 use Rattle.std.specs.Io.KnownBytes.{Appends}
 use Rattle.book_outer.specs.Cause.{Rose}
-use Rattle.book_outer.specs.Files.{FileEntry}
+use Rattle.book_outer.specs.Files.{FileEntry, with_content}
 use Rattle.book_outer.specs.State.{FolderState, SinkState}
 use Rattle.book_files.specs.declared.records.FileKind.{FileKind}
 use Rattle.book_files.specs.declared.records.FileKind.TheVariants.{Scl}
@@ -18,63 +18,128 @@ use Rattle.net_model.specs.Network.{IsFirstFault as IsFirstNetFault}
 use Rattle.book_design.specs.Records.{Records}
 use Rattle.book_design.specs.Values.{DesignValue}
 use Rattle.proud_top.specs.declared.status.Refusal.{Refusal}
-use Rattle.proud_top.specs.declared.status.Refusal.TheVariants.{Design, Net, Unanchored}
+use Rattle.proud_top.specs.declared.status.Refusal.TheVariants.{Design, Net, Unanchored, NoRoom}
 use Rattle.proud_top.specs.declared.status.Status.{Status}
 use Rattle.proud_top.specs.declared.status.Status.TheVariants.{Done, Usage, Refused, ReadFault, WriteFault, Memory}
 use Rattle.proud_top.specs.declared.stop.Stop.{Stop}
 use Rattle.proud_top.specs.declared.stop.Stop.TheVariants as stop
-use Rattle.proud_top.specs.Request.{RequestValue, requested}
-use Rattle.proud_top.specs.Accepted.{ReadsWeights, Accepts}
-use Rattle.proud_top.specs.Flow.{places, reads, last_kind}
+use Rattle.level_run.specs.declared.level.Level.{Level}
+use Rattle.level_run.specs.Levels.{level_at}
+use Rattle.row_space.specs.Values.{SegmentsValue}
+use Rattle.row_legal.specs.Cells.{CellsValue}
+use Rattle.proud_top.specs.declared.place.Placed.{Placed}
+use Rattle.proud_top.specs.Request.{RequestValue, requested, output_name}
+use Rattle.proud_top.specs.Accepted.{ReadsWeights, Accepts, IsLast}
+use Rattle.proud_top.specs.Wishes.{AreCells}
+use Rattle.proud_top.specs.Placement.{IsLegalText}
+use Rattle.proud_top.specs.Flow.{PlacedValue, ◌then◌, places, reads, legalises, writes, reports, places_levels, last_kind}
 use Rattle.proud_top.specs.Named.{node_of_fault, point_of_fault}
-use Rattle.proud_top.specs.Statuses.{status_of, Says, GotFront, HasReadUpTo, IsReport, IsCause, IsDue, IsDone, IsUsage, IsRefused, IsReadFault, IsWriteFault, IsMemory, IsPlaceable, AreReadsCalm, ArePutsCalm}
-use Rattle.proud_top.specs.Forms.Saying.{Puts}
+use Rattle.proud_top.specs.Statuses.{status_of, Says, HasFile, HasFront, GotFront, HasReadUpTo, IsPlacedAs, IsCause, IsDue, IsDone, IsUsage, IsRefused, IsReadFault, IsWriteFault, IsUnwritten, not_made, not_put, not_reported, IsPutUpTo, none_put, file_put, report_put, IsCutOff, cut_before, cut_in_line, cut_in_placement, IsMemory, IsPlaceable, AreReadsCalm, AreWritesCalm, ArePutsCalm, IsUntouched}
+use Rattle.proud_top.specs.Forms.Saying.{Puts, ReadsNothing, Delivers}
 use Rattle.proud_top.specs.Forms.Inputs.{Texts, AreWeights, AreRecords, HoldsWeights, HasTexts, places_texts}
-use Rattle.proud_top.specs.Forms.Stops.{StopsReading, Gathers, Places, HasNode, HasPoint, Covers, CoversStop, IsLineOf, Refuses}
+use Rattle.proud_top.specs.Forms.Stops.{StopsReading, Gathers, placed_value, Places, HasNode, HasPoint, Covers, CoversStop, IsLineOf, Refuses}
 use Rattle.proud_top.proofs.Once.{OneAnswer}
 use Rattle.proud_top.proofs.OneEnd.{one_end, never_refused}
 use Rattle.proud_top.proofs.Naming.{named_among}
 use Rattle.proud_top.proofs.Points.{heavy_there, loose_there}
+use Rattle.proud_top.proofs.Wishing.{stuck_there}
 
--- the status under which a put that failed ends
-abbrev pub failed_of : Status → Status
-failed_of Done = WriteFault
-failed_of WriteFault = WriteFault
-failed_of Usage = Usage
-failed_of (Refused refusal) = Refused refusal
-failed_of (ReadFault kind) = ReadFault kind
-failed_of Memory = Memory
+whole : (words : List (List ℕ)) (f f' : FolderState) (s s' : SinkState) (status : Status) (line : List ℕ) → IsDue status words f f' line → IsUntouched f f'
+    → Appends s.written s'.written line → s'.faults ≡ s.faults → Says status words f f' s s'
+whole words f f' s s' Usage line due kept got calm = record { line = line; due = due; untouched = kept; got = inl (got, calm) }
+whole words f f' s s' (Refused refusal) line due kept got calm = record { line = line; due = due; untouched = kept; got = inl (got, calm) }
+whole words f f' s s' (ReadFault kind) line due kept got calm = record { line = line; due = due; untouched = kept; got = inl (got, calm) }
+whole words f f' s s' Done line due kept got calm = absurd due
+whole words f f' s s' WriteFault line due kept got calm = absurd due
+whole words f f' s s' Memory line due kept got calm = absurd due
 
-whole : (words : List (List ℕ)) (f f' : FolderState) (s s' : SinkState) (status : Status) (text : List ℕ) → IsDue status words f f' text → (status ≡ WriteFault → ⊥)
-    → Appends s.written s'.written text → s'.faults ≡ s.faults → Says status words f f' s s'
-whole words f f' s s' Done text due other got calm = record { text = text; due = due; got = got; puts = calm }
-whole words f f' s s' WriteFault text due other got calm = absurd (other refl)
-whole words f f' s s' Usage text due other got calm = record { line = text; due = due; got = inl (got, calm) }
-whole words f f' s s' (Refused refusal) text due other got calm = record { line = text; due = due; got = inl (got, calm) }
-whole words f f' s s' (ReadFault kind) text due other got calm = record { line = text; due = due; got = inl (got, calm) }
-whole words f f' s s' Memory text due other got calm = absurd due
+part : (words : List (List ℕ)) (f f' : FolderState) (s s' : SinkState) (status : Status) (line : List ℕ) → IsDue status words f f' line → IsUntouched f f'
+    → Rose s.faults s'.faults → GotFront s s' line → Says status words f f' s s'
+part words f f' s s' Usage line due kept rose got = record { line = line; due = due; untouched = kept; got = inr (rose, got) }
+part words f f' s s' (Refused refusal) line due kept rose got = record { line = line; due = due; untouched = kept; got = inr (rose, got) }
+part words f f' s s' (ReadFault kind) line due kept rose got = record { line = line; due = due; untouched = kept; got = inr (rose, got) }
+part words f f' s s' Done line due kept rose got = absurd due
+part words f f' s s' WriteFault line due kept rose got = absurd due
+part words f f' s s' Memory line due kept rose got = absurd due
 
-part : (words : List (List ℕ)) (f f' : FolderState) (s s' : SinkState) (status : Status) (text : List ℕ) → IsDue status words f f' text
-    → Rose s.faults s'.faults → GotFront s s' text → Says (failed_of status) words f f' s s'
-part words f f' s s' Done text due rose got = record { text = text; due = due; got = got; rose = rose }
-part words f f' s s' WriteFault text due rose got = record { text = text; due = due; got = got; rose = rose }
-part words f f' s s' Usage text due rose got = record { line = text; due = due; got = inr (rose, got) }
-part words f f' s s' (Refused refusal) text due rose got = record { line = text; due = due; got = inr (rose, got) }
-part words f f' s s' (ReadFault kind) text due rose got = record { line = text; due = due; got = inr (rose, got) }
-part words f f' s s' Memory text due rose got = absurd due
-
--- The one lemma of the top: what is due, once put, says what its status says.
-pub says : (words : List (List ℕ)) (f f' : FolderState) (s s' : SinkState) (status result : Status) (text : List ℕ) → IsDue status words f f' text → (status ≡ WriteFault → ⊥)
-    → Puts text status (failed_of status) s s' result → Says result words f f' s s'
-says words f f' s s' status result text due other (inl put) =
+-- A line that is due, once put, says what its status says.
+pub says : (words : List (List ℕ)) (f f' : FolderState) (s s' : SinkState) (status result : Status) (line : List ℕ) → IsDue status words f f' line → IsUntouched f f'
+    → Puts line status status s s' result → Says result words f f' s s'
+says words f f' s s' status result line due kept (inl put) =
     let P : Status → Type 0 = λ x. Says x words f f' s s' in
-    subst P (sym put.0) (whole words f f' s s' status text due other put.1 put.2)
-says words f f' s s' status result text due other (inr (inl put)) =
+    subst P (sym put.0) (whole words f f' s s' status line due kept put.1 put.2)
+says words f f' s s' status result line due kept (inr (inl put)) =
     let P : Status → Type 0 = λ x. Says x words f f' s s' in
-    subst P (sym put.0) (part words f f' s s' status text due put.1 put.2)
-says words f f' s s' status result text due other (inr (inr put)) =
+    subst P (sym put.0) (part words f f' s s' status line due kept put.1 put.2)
+says words f f' s s' status result line due kept (inr (inr put)) =
     let P : Status → Type 0 = λ x. Says x words f f' s s' in
-    subst P (sym put.0) (record { got = inr (status, text, due, put.1); puts = put.2 })
+    subst P (sym put.0) (record { cut_off = cut_in_line status line due kept.files put.1; writes = kept.write_faults; puts = put.2 })
+
+-- what was reached, where nothing more is read
+read_on : (o : Option (List FileEntry)) (kind : FileKind) (word : List ℕ) (f g f' : FolderState) → IfSome o (λ files. IsLast files word kind f g) → ReadsNothing g f' → IfSome o (λ files. IsLast files word kind f f')
+read_on None kind word f g f' h k = tt
+read_on (Some files) kind word f g f' h k = record { name = h.name; nth = h.nth; next = h.next; begun = k.begun ∙ h.begun; present = k.missed ∙ h.present }
+
+read_kept : (kind : FileKind) (word : List ℕ) (f g f' : FolderState) → HasReadUpTo kind word f g → ReadsNothing g f' → HasReadUpTo kind word f f'
+read_kept kind word f g f' h k = record { begun = read_on f.files kind word f g f' h.begun k; reads = k.read_faults ∙ h.reads }
+
+-- what holds of the files since the texts were read holds since the start
+file_since : (name text : List ℕ) (f g f' : FolderState) → IsUntouched f g → HasFile name text g f' → HasFile name text f f'
+file_since name text f g f' kept h = h ∙ ap (λ (o : Option (List FileEntry)). option_map (λ files. with_content files name text) o) kept.files
+
+front_since : (name text : List ℕ) (f g f' : FolderState) → IsUntouched f g → HasFront name text g f' → HasFront name text f f'
+front_since name text f g f' kept (n, h) = (n, file_since name (take n text) f g f' kept h)
+
+rose_since : (a b c : ℕ) → b ≡ a → Rose b c → Rose a c
+rose_since a b c same rose =
+    let P : ℕ → Type 0 = λ n. Rose n c in
+    subst P same rose
+
+unwritten_since : (name : List ℕ) (placed : PlacedValue) (f g f' : FolderState) (s s' : SinkState) → IsUntouched f g → IsUnwritten name placed g f' s s' → IsUnwritten name placed f f' s s'
+unwritten_since name placed f g f' s s' kept (not_made rose same none) = not_made (rose_since f.write_faults g.write_faults f'.write_faults kept.write_faults rose) (same ∙ kept.files) none
+unwritten_since name placed f g f' s s' kept (not_put rose front none) = not_put (rose_since f.write_faults g.write_faults f'.write_faults kept.write_faults rose) (front_since name placed.file f g f' kept front) none
+unwritten_since name placed f g f' s s' kept (not_reported rose file calm got) = not_reported rose (file_since name placed.file f g f' kept file) (calm ∙ kept.write_faults) got
+
+up_to_since : (name : List ℕ) (placed : PlacedValue) (f g f' : FolderState) (s s' : SinkState) → IsUntouched f g → IsPutUpTo name placed g f' s s' → IsPutUpTo name placed f f' s s'
+up_to_since name placed f g f' s s' kept (none_put same none) = none_put (same ∙ kept.files) none
+up_to_since name placed f g f' s s' kept (file_put front none) = file_put (front_since name placed.file f g f' kept front) none
+up_to_since name placed f g f' s s' kept (report_put file got) = report_put (file_since name placed.file f g f' kept file) got
+
+-- as what the request is placed, before it is delivered
+pub record IsPlacedAt (words : List (List ℕ)) (request : RequestValue) (old new : FolderState) (placed : PlacedValue) : Type 0 where
+  pub asked : requested words ≡ Some request
+  pub flow : places old.files request (Ok placed)
+  pub read : HasReadUpTo Scl request.design old new
+  pub legal : IsLegalText (λ records. reads old.files request.design (Ok records)) placed.file
+
+-- What was placed, once delivered, says what the status says.
+pub says_delivered : (words : List (List ℕ)) (request : RequestValue) (f g f' : FolderState) (s s' : SinkState) (placed : PlacedValue) (result : Status) → IsPlacedAt words request f g placed → IsUntouched f g → ReadsNothing g f'
+    → Delivers (output_name request.design) placed g f' s s' result → Says result words f f' s s'
+says_delivered words request f g f' s s' placed result h kept none delivered = by_status result delivered where
+  by_status : (x : Status) → Delivers (output_name request.design) placed g f' s s' x → Says x words f f' s s'
+  by_status Done d = record {
+    placed = placed;
+    due = record { request = request; asked = h.asked; flow = h.flow; read = read_kept Scl request.design f g f' h.read none; legal = h.legal };
+    file = file_since (output_name request.design) placed.file f g f' kept d.0;
+    got = d.2;
+    writes = d.1 ∙ kept.write_faults;
+    puts = d.3;
+  }
+  by_status WriteFault d = record {
+    placed = placed;
+    due = record { request = request; asked = h.asked; flow = h.flow; read = read_kept Scl request.design f g f' h.read none; legal = h.legal };
+    unwritten = unwritten_since (output_name request.design) placed f g f' s s' kept d;
+  }
+  by_status Memory d = record {
+    cut_off = cut_in_placement placed
+        (record { request = request; asked = h.asked; flow = h.flow; read = read_kept Scl request.design f g f' h.read none; legal = h.legal })
+        (up_to_since (output_name request.design) placed f g f' s s' kept d.0);
+    writes = d.1 ∙ kept.write_faults;
+    puts = d.2;
+  }
+  by_status Usage d = absurd d
+  by_status (Refused refusal) d = absurd d
+  by_status (ReadFault kind) d = absurd d
 
 -- the texts of the files, read as records, are accepted files
 weights_read : (files : List FileEntry) (word : List ℕ) (wts text : Option (List ℕ)) (weights : Option (List WeightEntry)) → HoldsWeights files word wts text → AreWeights text weights → ReadsWeights files word wts weights
@@ -100,8 +165,8 @@ reads_texts None word texts records h k = tt
 reads_texts (Some files) word texts records h k = (h.names, accepts_texts files word texts records h k)
 
 -- the flow from the texts on is that from the files on
-flow_texts : (o : Option (List FileEntry)) (request : RequestValue) (texts : Texts) (end : Result (List ℕ) Refusal) → IfSome o (λ files. HasTexts files request.design texts) → places_texts request.levels texts end → places o request end
-flow_texts o request texts (Ok text) h flow = (flow.0, reads_texts o request.design texts flow.0 h flow.1, flow.2)
+flow_texts : (o : Option (List FileEntry)) (request : RequestValue) (texts : Texts) (end : Result PlacedValue Refusal) → IfSome o (λ files. HasTexts files request.design texts) → places_texts request.levels texts end → places o request end
+flow_texts o request texts (Ok placed) h flow = (flow.0, reads_texts o request.design texts flow.0 h flow.1, flow.2)
 flow_texts o request texts (Err refusal) h (inl none) = absurd none
 flow_texts o request texts (Err refusal) h (inr (records, read, rest)) = inr (records, reads_texts o request.design texts records h read, rest)
 
@@ -130,6 +195,23 @@ late_as texts refusal other e h =
     let P : Refusal → Type 0 = λ r. Late texts r in
     subst P (sym e) h
 
+-- behind the levels there may be no room
+late_cells : (count : ℕ) (texts : Texts) (refusal : Refusal) (records : Records) (design : DesignValue) (levels : List Level) (rows : SegmentsValue) (cells : CellsValue) → AreRecords texts records → IsJoined records design
+    → AreCells design (level_at levels count) cells → (legalises rows cells then λ places. writes design rows places then λ file. reports design count levels file) (Err refusal) → Late texts refusal
+late_cells count texts refusal records design levels rows cells read joined are (inl (cell, sites, largest, e, stuck)) =
+    late_as texts refusal (NoRoom cell sites largest) e (record {
+      last = refl;
+      covered = (tt, record { records = records; design = design; read = read; joined = joined; there = stuck_there design (level_at levels count) rows cells cell sites largest are stuck });
+    })
+late_cells count texts refusal records design levels rows cells read joined are (inr (places, is, inl none)) = absurd none
+late_cells count texts refusal records design levels rows cells read joined are (inr (places, is, inr (file, same, none))) = absurd none
+
+late_levels : (count : ℕ) (texts : Texts) (refusal : Refusal) (records : Records) (design : DesignValue) (levels : List Level) → AreRecords texts records → IsJoined records design
+    → places_levels count design levels (Err refusal) → Late texts refusal
+late_levels count texts refusal records design levels read joined (inl none) = absurd none
+late_levels count texts refusal records design levels read joined (inr (rows, same, inl none)) = absurd none
+late_levels count texts refusal records design levels read joined (inr (rows, same, inr (cells, are, rest))) = late_cells count texts refusal records design levels rows cells read joined are rest
+
 late : (count : ℕ) (texts : Texts) (refusal : Refusal) → places_texts count texts (Err refusal) → Late texts refusal
 late count texts refusal (inl none) = absurd none
 late count texts refusal (inr (records, read, inl (fault, e, first))) = late_as texts refusal (Design fault) e (record { last = refl; covered = (fault_covered texts records fault read first, tt) })
@@ -138,7 +220,7 @@ late count texts refusal (inr (records, read, inr (design, joined, inl (fault, e
 late count texts refusal (inr (records, read, inr (design, joined, inr (network, made, inl (point, e, first))))) =
     late_as texts refusal (Unanchored point) e (record { last = refl; covered = (tt, record { records = records; design = design; read = read; joined = joined; there = loose_there design network point made first }) })
 late count texts refusal (inr (records, read, inr (design, joined, inr (network, made, inr (done, chains, inl none))))) = absurd none
-late count texts refusal (inr (records, read, inr (design, joined, inr (network, made, inr (done, chains, inr (solved, is, none)))))) = absurd none
+late count texts refusal (inr (records, read, inr (design, joined, inr (network, made, inr (done, chains, inr (levels, is, rest)))))) = late_levels count texts refusal records design levels read joined rest
 
 pub covered_gather : (f f' : FolderState) (word : List ℕ) (s : Stop) → StopsReading f f' word s → CoversStop None s
 covered_gather f f' word (stop.Refused refusal) h = h.3
@@ -178,60 +260,61 @@ due_place words request f f' texts asked g (stop.Refused refusal) h line is othe
 due_place words request f f' texts asked g (stop.ReadFault kind) h line is other = absurd h
 due_place words request f f' texts asked g stop.Memory h line is other = absurd (other refl)
 
-pub due_report : (words : List (List ℕ)) (request : RequestValue) (f f' : FolderState) (texts : Texts) (text : List ℕ) → requested words ≡ Some request → Gathers f f' request.design (Ok texts) → places_texts request.levels texts (Ok text) → IsReport words f f' text
-due_report words request f f' texts text asked g flow = record { request = request; asked = asked; flow = flow_texts f.files request texts (Ok text) g.1 flow; read = g.2 }
+pub placed_at : (words : List (List ℕ)) (request : RequestValue) (f f' : FolderState) (texts : Texts) (placed : Placed) → requested words ≡ Some request → Gathers f f' request.design (Ok texts) → Places request.levels texts (Ok placed)
+    → IsPlacedAt words request f f' (placed_value placed)
+placed_at words request f f' texts placed asked g h = record {
+  asked = asked;
+  flow = flow_texts f.files request texts (Ok (placed_value placed)) g.1 h.0;
+  read = g.2;
+  legal = record {
+    records = h.1.records;
+    design = h.1.design;
+    spots = h.1.spots;
+    read = reads_texts f.files request.design texts h.1.records g.1 h.1.read;
+    joined = h.1.joined;
+    legal = h.1.legal;
+    is_text = h.1.is_text;
+  };
+}
 
-append_none : (xs : List ℕ) → xs ++ [] ≡ xs
-append_none [] = refl
-append_none (x ∷ xs) = ap (λ ys. x ∷ ys) (append_none xs)
-
-pub nothing_put : (o : Option (List ℕ)) → Appends o o []
-nothing_put None = tt
-nothing_put (Some xs) = sym (append_none xs)
+-- a folder is as it was where the reading of its files stopped
+pub untouched_at : (f f' : FolderState) (word : List ℕ) (s : Stop) → StopsReading f f' word s → IsUntouched f f'
+untouched_at f f' word (stop.Refused refusal) h = h.0
+untouched_at f f' word (stop.ReadFault kind) h = h.0
+untouched_at f f' word stop.Memory h = h.0
 
 -- what a stop says, once its line was put
-pub says_stop : (words : List (List ℕ)) (f f' : FolderState) (s s' : SinkState) (texts : Option Texts) (x : Stop) (result : Status)
+pub says_stop : (words : List (List ℕ)) (f f' : FolderState) (s s' : SinkState) (texts : Option Texts) (x : Stop) (result : Status) → IsUntouched f f'
     → ((line : List ℕ) → IsLineOf texts x line → (x ≡ stop.Memory → ⊥) → IsDue (status_of x) words f f' line) → Refuses texts x s s' result → Says result words f f' s s'
-says_stop words f f' s s' texts x result due (inl (e, same)) =
+says_stop words f f' s s' texts x result kept due (inl (e, same)) =
     let P : Status → Type 0 = λ y. Says y words f f' s s' in
-    let W : SinkState → Type 0 = λ y. Appends s.written y.written [] in
-    subst P (sym e) (record { got = inl (subst W (sym same) (nothing_put s.written)); puts = ap (λ (y : SinkState). y.faults) same })
-says_stop words f f' s s' texts x result due (inr (line, other, is, put)) =
-    let P : Status → Type 0 = λ failed. Puts line (status_of x) failed s s' result in
-    says words f f' s s' (status_of x) result line (due line is other) (no_write x) (subst P (sym (same_failed x)) put) where
-      same_failed : (y : Stop) → failed_of (status_of y) ≡ status_of y
-      same_failed (stop.Refused refusal) = refl
-      same_failed (stop.ReadFault kind) = refl
-      same_failed stop.Memory = refl
-
-      no_write : (y : Stop) → status_of y ≡ WriteFault → ⊥
-      no_write (stop.Refused refusal) e = cc
-      no_write (stop.ReadFault kind) e = cc
-      no_write stop.Memory e = cc
+    subst P (sym e) (record { cut_off = cut_before kept.files same; writes = kept.write_faults; puts = ap (λ (y : SinkState). y.faults) same })
+says_stop words f f' s s' texts x result kept due (inr (line, other, is, put)) =
+    says words f f' s s' (status_of x) result line (due line is other) kept put
 
 -- the flow of the one request that the words make
 one_request : (a b : RequestValue) → Some a ≡ Some b → a ≡ b
 one_request a b e = cc
 
-same_flow : (words : List (List ℕ)) (files : Option (List FileEntry)) (a b : RequestValue) (end : Result (List ℕ) Refusal) → requested words ≡ Some a → requested words ≡ Some b → places files a end → places files b end
+same_flow : (words : List (List ℕ)) (files : Option (List FileEntry)) (a b : RequestValue) (end : Result PlacedValue Refusal) → requested words ≡ Some a → requested words ≡ Some b → places files a end → places files b end
 same_flow words files a b end ea eb h =
     let P : RequestValue → Type 0 = λ request. places files request end in
     subst P (one_request a b (sym ea ∙ eb)) h
 
-abbrev refused_end : Refusal → Result (List ℕ) Refusal
+abbrev refused_end : Refusal → Result PlacedValue Refusal
 refused_end refusal = Err refusal
 
 -- a run without a read fault is refused where the flow is
 pub only_refused : OneAnswer → (files : List FileEntry) (words : List (List ℕ)) (f f' : FolderState) (s s' : SinkState) (refusal : Refusal) (status : Status)
     → f.files ≡ Some files → IsCause words (Some files) refusal → AreReadsCalm f f' → Says status words f f' s s' → (status ≡ Refused refusal) ⊎ (status ≡ Memory)
 only_refused one files words f f' s s' refusal status is cause calm said = by_status status said where
-  ended : (request : RequestValue) (end : Result (List ℕ) Refusal) → requested words ≡ Some request → places f.files request end → end ≡ Err refusal
+  ended : (request : RequestValue) (end : Result PlacedValue Refusal) → requested words ≡ Some request → places f.files request end → end ≡ Err refusal
   ended request end asked flow =
       let P : Option (List FileEntry) → Type 0 = λ o. places o request end in
       one_end one files request end (Err refusal) (subst P is flow) (same_flow words (Some files) cause.request request (Err refusal) cause.asked asked cause.flow)
 
-  no_text : (text : List ℕ) → Ok text ≡ Err refusal → ⊥
-  no_text text e = cc
+  no_text : (placed : PlacedValue) → Ok placed ≡ Err refusal → ⊥
+  no_text placed e = cc
 
   no_form : requested words ≡ None → ⊥
   no_form e = clash (sym e ∙ cause.asked) where
@@ -242,8 +325,8 @@ only_refused one files words f f' s s' refusal status is cause calm said = by_st
   same other e = cc
 
   by_status : (x : Status) → Says x words f f' s s' → (x ≡ Refused refusal) ⊎ (x ≡ Memory)
-  by_status Done h = absurd (no_text h.text (ended h.due.request (Ok h.text) h.due.asked h.due.flow))
-  by_status WriteFault h = absurd (no_text h.text (ended h.due.request (Ok h.text) h.due.asked h.due.flow))
+  by_status Done h = absurd (no_text h.placed (ended h.due.request (Ok h.placed) h.due.asked h.due.flow))
+  by_status WriteFault h = absurd (no_text h.placed (ended h.due.request (Ok h.placed) h.due.asked h.due.flow))
   by_status Usage h = absurd (no_form h.due.form)
   by_status (Refused other) h = inl (same other (ended h.due.cause.request (Err other) h.due.cause.asked h.due.cause.flow))
   by_status (ReadFault kind) h = absurd (calm h.due.rose)
@@ -251,8 +334,8 @@ only_refused one files words f f' s s' refusal status is cause calm said = by_st
 
 -- a run without a fault is done where the design is accepted
 pub complete : OneAnswer → (files : List FileEntry) (words : List (List ℕ)) (f f' : FolderState) (s s' : SinkState) (status : Status)
-    → f.files ≡ Some files → IsPlaceable words files → AreReadsCalm f f' → ArePutsCalm s s' → Says status words f f' s s' → (status ≡ Done) ⊎ (status ≡ Memory)
-complete one files words f f' s s' status is given calm quiet said = by_status status said where
+    → f.files ≡ Some files → IsPlaceable words files → AreReadsCalm f f' → AreWritesCalm f f' → ArePutsCalm s s' → Says status words f f' s s' → (status ≡ Done) ⊎ (status ≡ Memory)
+complete one files words f f' s s' status is given calm still quiet said = by_status status said where
   no_form : requested words ≡ None → ⊥
   no_form e = clash (sym e ∙ given.asked) where
     clash : None ≡ Some given.request → ⊥
@@ -261,12 +344,17 @@ complete one files words f f' s s' status is given calm quiet said = by_status s
   no_refusal : (refusal : Refusal) (request : RequestValue) → requested words ≡ Some request → places f.files request (Err refusal) → ⊥
   no_refusal refusal request asked flow =
       let P : Option (List FileEntry) → Type 0 = λ o. places o request (Err refusal) in
-      never_refused one files given.request given.names given.records given.design given.network refusal given.accepted given.joined given.wired given.chains
+      never_refused one files given.request given.names given.records given.design given.network refusal given.accepted given.joined given.wired given.chains given.room
       (same_flow words (Some files) request given.request (Err refusal) asked given.asked (subst P is flow))
+
+  unwritten : {name : List ℕ} {placed : PlacedValue} → IsUnwritten name placed f f' s s' → ⊥
+  unwritten (not_made rose same none) = still rose
+  unwritten (not_put rose front none) = still rose
+  unwritten (not_reported rose file kept got) = quiet rose
 
   by_status : (x : Status) → Says x words f f' s s' → (x ≡ Done) ⊎ (x ≡ Memory)
   by_status Done h = inl refl
-  by_status WriteFault h = absurd (quiet h.rose)
+  by_status WriteFault h = absurd (unwritten h.unwritten)
   by_status Usage h = absurd (no_form h.due.form)
   by_status (Refused refusal) h = absurd (no_refusal refusal h.due.cause.request h.due.cause.asked h.due.cause.flow)
   by_status (ReadFault kind) h = absurd (calm h.due.rose)
@@ -274,7 +362,7 @@ complete one files words f f' s s' status is given calm quiet said = by_status s
 
 -- what a status says, of what is known under each
 pub said_of : (words : List (List ℕ)) (f f' : FolderState) (s s' : SinkState) (status : Status)
-    → (status ≡ Done → IsDone words f f' s s') → (status ≡ Usage → IsUsage words s s')
+    → (status ≡ Done → IsDone words f f' s s') → (status ≡ Usage → IsUsage words f f' s s')
     → ((refusal : Refusal) → status ≡ Refused refusal → IsRefused words refusal f f' s s')
     → ((kind : FileKind) → status ≡ ReadFault kind → IsReadFault words kind f f' s s')
     → (status ≡ WriteFault → IsWriteFault words f f' s s') → (status ≡ Memory → IsMemory words f f' s s')

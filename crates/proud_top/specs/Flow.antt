@@ -16,12 +16,27 @@ use Rattle.net_model.specs.Values.{NetworkValue}
 use Rattle.net_model.specs.Network.{IsNetwork, IsFirstFault as IsFirstNetFault}
 use Rattle.net_model.specs.Webs.{joints_of}
 use Rattle.proud_top.specs.declared.status.Refusal.{Refusal}
-use Rattle.proud_top.specs.declared.status.Refusal.TheVariants.{TooLong, Text, Design, Net, Unanchored}
+use Rattle.proud_top.specs.declared.status.Refusal.TheVariants.{TooLong, Text, Design, Net, Unanchored, NoRoom}
 use Rattle.proud_top.specs.Accepted.{Accepts, IsTooLong, IsBadText}
 use Rattle.level_run.specs.declared.level.Level.{Level}
+use Rattle.level_run.specs.Levels.{level_at}
+use Rattle.row_space.specs.Values.{SegmentsValue}
+use Rattle.row_space.specs.Runs.{segments_of}
+use Rattle.row_legal.specs.declared.parts.Place.{Place}
+use Rattle.row_legal.specs.Cells.{CellsValue}
+use Rattle.row_legal.specs.Places.{IsLegalised}
+use Rattle.row_legal.specs.Answers.{HasNoRoom}
+use Rattle.row_legal.specs.Spots.{spots_of}
 use Rattle.proud_top.specs.Request.{RequestValue}
 use Rattle.proud_top.specs.Solve.{AreSolved}
+use Rattle.proud_top.specs.Wishes.{AreCells}
+use Rattle.proud_top.specs.Placement.{placement_of}
 use Rattle.proud_top.specs.Report.{IsReportOf}
+
+-- what a design is placed as: the text of its placement, and the report
+pub record PlacedValue : Type 0 where
+  pub file : List ℕ
+  pub report : List ℕ
 
 -- one step behind another, which goes on with what the first makes
 infixl 10 ◌then◌
@@ -37,6 +52,7 @@ reads_known files word (Err (Text kind fault)) = IsBadText files word kind fault
 reads_known files word (Err (Design fault)) = ⊥
 reads_known files word (Err (Net fault)) = ⊥
 reads_known files word (Err (Unanchored point)) = ⊥
+reads_known files word (Err (NoRoom cell sites largest)) = ⊥
 
 -- The same of a folder whose files may be unknown: of those nothing is said, here and nowhere else.
 abbrev pub reads : Option (List FileEntry) → List ℕ → Result Records Refusal → Type 0
@@ -63,17 +79,41 @@ abbrev pub solves : NetworkValue → ℕ → Result (List Level) Refusal → Typ
 solves network count (Ok levels) = AreSolved network count levels
 solves network count (Err refusal) = ⊥
 
--- the report of the last level
-abbrev pub reports : DesignValue → ℕ → List Level → Result (List ℕ) Refusal → Type 0
-reports design count levels (Ok text) = IsReportOf design.nodes count levels text
-reports design count levels (Err refusal) = ⊥
+-- the segments of its rows
+abbrev pub spaces : DesignValue → Result SegmentsValue Refusal → Type 0
+spaces design (Ok rows) = rows ≡ segments_of design
+spaces design (Err refusal) = ⊥
+
+-- its cells, with their wishes of the last level
+abbrev pub wishes : DesignValue → ℕ → List Level → Result CellsValue Refusal → Type 0
+wishes design count levels (Ok cells) = AreCells design (level_at levels count) cells
+wishes design count levels (Err refusal) = ⊥
+
+-- the places of the cells by the greedy rule, or the first of them for which no segment has the room
+abbrev pub legalises : SegmentsValue → CellsValue → Result (List Place) Refusal → Type 0
+legalises rows cells (Ok places) = IsLegalised rows cells places
+legalises rows cells (Err refusal) = (cell : ℕ) × (sites : ℕ) × (largest : ℕ) × (refusal ≡ NoRoom cell sites largest) × HasNoRoom rows cells cell sites largest
+
+-- the text of the placement
+abbrev pub writes : DesignValue → SegmentsValue → List Place → Result (List ℕ) Refusal → Type 0
+writes design rows places (Ok text) = text ≡ placement_of design (spots_of rows places)
+writes design rows places (Err refusal) = ⊥
+
+-- and with it the report
+abbrev pub reports : DesignValue → ℕ → List Level → List ℕ → Result PlacedValue Refusal → Type 0
+reports design count levels file (Ok placed) = (placed.file ≡ file) × IsReportOf design count levels placed.report
+reports design count levels file (Err refusal) = ⊥
+
+-- the steps from the levels on
+abbrev pub places_levels : ℕ → DesignValue → List Level → Result PlacedValue Refusal → Type 0
+places_levels count design levels = spaces design then λ rows. wishes design count levels then λ cells. legalises rows cells then λ places. writes design rows places then λ file. reports design count levels file
 
 -- the steps from the records on
-abbrev pub places_records : ℕ → Records → Result (List ℕ) Refusal → Type 0
-places_records count records = joins records then λ design. wires design then λ network. reaches network then λ done. solves network count then λ levels. reports design count levels
+abbrev pub places_records : ℕ → Records → Result PlacedValue Refusal → Type 0
+places_records count records = joins records then λ design. wires design then λ network. reaches network then λ done. solves network count then λ levels. places_levels count design levels
 
--- The whole flow: the report of what the design's files make, or the refusal at the first step that stops.
-abbrev pub places : Option (List FileEntry) → RequestValue → Result (List ℕ) Refusal → Type 0
+-- The whole flow: what the design's files are placed as, or the refusal at the first step that stops.
+abbrev pub places : Option (List FileEntry) → RequestValue → Result PlacedValue Refusal → Type 0
 places files request = reads files request.design then places_records request.levels
 
 -- the last file that is begun before a refusal
@@ -83,3 +123,4 @@ last_kind (Text kind fault) = kind
 last_kind (Design fault) = Scl
 last_kind (Net fault) = Scl
 last_kind (Unanchored point) = Scl
+last_kind (NoRoom cell sites largest) = Scl

@@ -2,6 +2,8 @@ pub mod Request
 pub mod Order
 pub mod Accepted
 pub mod Solve
+pub mod Wishes
+pub mod Placement
 pub mod Report
 pub mod Flow
 pub mod Named

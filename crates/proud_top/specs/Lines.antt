@@ -1,4 +1,4 @@
--- The lines that tell why there is no report.
+-- The lines that tell why there is no placement.
 use Rattle.std.specs.Prelude.{ℕ, List, [], ◌∷◌, ◌++◌, codes, decimal}
 use Rattle.book_files.specs.declared.records.FileKind.{FileKind}
 use Rattle.book_files.specs.declared.records.FileKind.TheVariants.{Aux, Nodes, Nets, Wts, Pl, Scl}
@@ -10,7 +10,7 @@ use Rattle.book_design.specs.declared.fault.DesignFault.TheVariants.{DuplicateNa
 use Rattle.net_model.specs.declared.fault.NetFault.{NetFault}
 use Rattle.net_model.specs.declared.fault.NetFault.TheVariants.{NetTooWide, TooManyEdges, Heavy}
 use Rattle.proud_top.specs.declared.status.Refusal.{Refusal}
-use Rattle.proud_top.specs.declared.status.Refusal.TheVariants.{TooLong, Text, Design, Net, Unanchored}
+use Rattle.proud_top.specs.declared.status.Refusal.TheVariants.{TooLong, Text, Design, Net, Unanchored, NoRoom}
 
 -- how a kind of file is printed
 abbrev pub kind_text : FileKind → List ℕ
@@ -84,12 +84,17 @@ net_cause (Heavy point) name = node_cause name (codes "too heavy")
 abbrev pub size_cause : FileKind → List ℕ → ℕ → List ℕ
 size_cause kind wrong bytes = kind_text kind ++ codes ": " ++ wrong ++ codes " " ++ decimal bytes ++ codes " bytes"
 
+-- a cell for which no segment has the room
+abbrev pub room_cause : List ℕ → ℕ → ℕ → List ℕ
+room_cause name sites largest = codes "node " ++ name ++ (codes ": no room for " ++ (decimal sites ++ (codes " sites, " ++ (decimal largest ++ codes " left"))))
+
 abbrev pub cause_text : Refusal → List ℕ → List ℕ
 cause_text (TooLong kind) name = size_cause kind (codes "longer than") MOST_BYTES
 cause_text (Text kind fault) name = line_place kind fault.line ++ text_cause fault.kind
 cause_text (Design fault) name = design_cause fault name
 cause_text (Net fault) name = net_cause fault name
 cause_text (Unanchored point) name = node_cause name (codes "reaches no pad")
+cause_text (NoRoom cell sites largest) name = room_cause name sites largest
 
 -- the line of a refusal; the name is that of the node that it names
 abbrev pub refusal_line : Refusal → List ℕ → List ℕ

@@ -10,7 +10,7 @@ use Rattle.book_design.specs.Points.{node_value_at, IsNodeOf}
 use Rattle.net_model.specs.declared.fault.NetFault.{NetFault}
 use Rattle.net_model.specs.declared.fault.NetFault.TheVariants.{NetTooWide, TooManyEdges, Heavy}
 use Rattle.proud_top.specs.declared.status.Refusal.{Refusal}
-use Rattle.proud_top.specs.declared.status.Refusal.TheVariants.{TooLong, Text, Design, Net, Unanchored}
+use Rattle.proud_top.specs.declared.status.Refusal.TheVariants.{TooLong, Text, Design, Net, Unanchored, NoRoom}
 
 -- the number of the node that a fault of the files together names
 abbrev pub node_of_fault : DesignFault → Option ℕ
@@ -34,12 +34,14 @@ abbrev pub node_of : Refusal → Option ℕ
 node_of (Design fault) = node_of_fault fault
 node_of (Net fault) = None
 node_of (Unanchored point) = None
+node_of (NoRoom cell sites largest) = None
 node_of (TooLong kind) = None
 node_of (Text kind fault) = None
 
 abbrev pub point_of : Refusal → Option ℕ
 point_of (Net fault) = point_of_fault fault
 point_of (Unanchored point) = Some point
+point_of (NoRoom cell sites largest) = Some cell
 point_of (Design fault) = None
 point_of (TooLong kind) = None
 point_of (Text kind fault) = None

@@ -1,5 +1,5 @@
 -- What the words of a command line ask for, and where the files of a design stand.
-use Rattle.std.specs.Prelude.{ℕ, ◌-◌, ◌==◌, ◌&&◌, Bool, not, List, [], ◌∷◌, ◌++◌, length, take, codes, bytes_eq, nat_le, if◌then◌else◌, Option, Some, None, Result, Ok, Err}
+use Rattle.std.specs.Prelude.{ℕ, ◌-◌, ◌==◌, ◌&&◌, Bool, not, List, [], ◌∷◌, ◌++◌, length, take, drop, codes, bytes_eq, nat_le, if◌then◌else◌, Option, Some, None, Result, Ok, Err}
 use Rattle.std.specs.List.{suffix_len}
 use Rattle.relax_crew.specs.declared.range.TheConstants.{MOST_SEATS}
 use Rattle.level_run.specs.declared.hierarchy.TheConstants.{MOST_LEVELS}
@@ -65,3 +65,11 @@ folder_of name = take (length name - suffix_len is_no_slash name) name
 -- the name of a file that stands beside the design's aux file
 abbrev pub beside : List ℕ → List ℕ → List ℕ
 beside design name = folder_of design ++ name
+
+-- a name without a final `.aux`
+abbrev pub stem : List ℕ → List ℕ
+stem name = if bytes_eq (drop (length name - 4) name) (codes ".aux") then take (length name - 4) name else name
+
+-- the name of the output file
+abbrev pub output_name : List ℕ → List ℕ
+output_name design = stem design ++ codes ".proud.pl"

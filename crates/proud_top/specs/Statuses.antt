@@ -1,8 +1,8 @@
 -- What each status says: why it comes, and what stands then.
-use Rattle.std.specs.Prelude.{◌≡◌, ◌⊎◌, ℕ, ◌<◌, List, [], length, take, Option, Some, None, IfSome, Ok, Err}
+use Rattle.std.specs.Prelude.{◌≡◌, ◌⊎◌, ℕ, ◌<◌, List, [], length, take, Option, Some, None, IfSome, Ok, Err, option_map}
 use Rattle.std.specs.Io.KnownBytes.{Appends}
 use Rattle.book_outer.specs.Cause.{Rose}
-use Rattle.book_outer.specs.Files.{FileEntry}
+use Rattle.book_outer.specs.Files.{FileEntry, with_content}
 use Rattle.book_outer.specs.State.{FolderState, SinkState}
 use Rattle.book_files.specs.declared.records.FileKind.{FileKind}
 use Rattle.book_files.specs.declared.records.FileKind.TheVariants.{Scl}
@@ -20,12 +20,20 @@ use Rattle.proud_top.specs.declared.status.Status.TheVariants.{Done, Usage, Refu
 use Rattle.proud_top.specs.declared.stop.Stop.{Stop}
 use Rattle.proud_top.specs.declared.stop.Stop.TheVariants as stop
 use Rattle.proud_top.specs.Lines.{usage_line, cannot_read_line, refusal_line}
-use Rattle.proud_top.specs.Request.{RequestValue, requested}
+use Rattle.level_run.specs.declared.level.Level.{Level}
+use Rattle.level_run.specs.Levels.{IsLevels, level_at}
+use Rattle.row_space.specs.Runs.{segments_of}
+use Rattle.row_legal.specs.declared.parts.Place.{Place}
+use Rattle.row_legal.specs.Cells.{CellsValue}
+use Rattle.row_legal.specs.Places.{IsLegalised}
+use Rattle.proud_top.specs.Request.{RequestValue, requested, output_name}
 use Rattle.proud_top.specs.Accepted.{Accepts, IsFaultAt, IsLast}
-use Rattle.proud_top.specs.Flow.{reads, places, last_kind}
+use Rattle.proud_top.specs.Wishes.{AreCells}
+use Rattle.proud_top.specs.Placement.{IsLegalText}
+use Rattle.proud_top.specs.Flow.{PlacedValue, reads, places, last_kind}
 use Rattle.proud_top.specs.Named.{IsNameIn}
 
--- the status of a run that stopped before there was a report
+-- the status of a run that stopped before there was a placement
 abbrev pub status_of : Stop → Status
 status_of (stop.ReadFault kind) = ReadFault kind
 status_of (stop.Refused refusal) = Refused refusal
@@ -36,12 +44,13 @@ pub record HasReadUpTo (kind : FileKind) (word : List ℕ) (old new : FolderStat
   pub begun : IfSome old.files (λ files. IsLast files word kind old new)
   pub reads : new.read_faults ≡ old.read_faults
 
--- The words ask for a design, of which the text is the report.
-pub record IsReport (words : List (List ℕ)) (old new : FolderState) (text : List ℕ) : Type 0 where
+-- The words ask for a design that is placed as this, and its cells stand legally.
+pub record IsPlacedAs (words : List (List ℕ)) (old new : FolderState) (placed : PlacedValue) : Type 0 where
   pub request : RequestValue
   pub asked : requested words ≡ Some request
-  pub flow : places old.files request (Ok text)
+  pub flow : places old.files request (Ok placed)
   pub read : HasReadUpTo Scl request.design old new
+  pub legal : IsLegalText (λ records. reads old.files request.design (Ok records)) placed.file
 
 -- the words ask for a design that is refused by this
 pub record IsCause (words : List (List ℕ)) (files : Option (List FileEntry)) (refusal : Refusal) : Type 0 where
@@ -70,14 +79,18 @@ pub record IsMisused (words : List (List ℕ)) (text : List ℕ) : Type 0 where
   pub form : requested words ≡ None
   pub line : text ≡ usage_line
 
--- why a status comes, and what is put under it
-abbrev pub IsDue : Status → List (List ℕ) → FolderState → FolderState → List ℕ → Type 0
-IsDue Done words old new text = IsReport words old new text
-IsDue WriteFault words old new text = IsReport words old new text
-IsDue Usage words old new text = IsMisused words text
-IsDue (Refused refusal) words old new text = IsRefusal words old new refusal text
-IsDue (ReadFault kind) words old new text = IsUnread words old new kind text
-IsDue Memory words old new text = ⊥
+-- the files are as before, and nothing was written
+pub record IsUntouched (old new : FolderState) : Type 0 where
+  pub files : new.files ≡ old.files
+  pub write_faults : new.write_faults ≡ old.write_faults
+
+-- The file of the name holds the text, and all others are as before. Where the files weren't known, they still aren't.
+abbrev pub HasFile : List ℕ → List ℕ → FolderState → FolderState → Type 0
+HasFile name text old new = new.files ≡ option_map (λ files. with_content files name text) old.files
+
+-- the file of the name holds a front of the text
+abbrev pub HasFront : List ℕ → List ℕ → FolderState → FolderState → Type 0
+HasFront name text old new = (n : ℕ) × HasFile name (take n text) old new
 
 -- the sink got a front of the text
 abbrev pub GotFront : SinkState → SinkState → List ℕ → Type 0
@@ -87,49 +100,87 @@ GotFront old new text = (n : ℕ) × Appends old.written new.written (take n tex
 abbrev pub Got : SinkState → SinkState → List ℕ → Type 0
 Got old new text = (Appends old.written new.written text × (new.faults ≡ old.faults)) ⊎ (Rose old.faults new.faults × GotFront old new text)
 
+-- why a status comes under which a line alone is put, and that line
+abbrev pub IsDue : Status → List (List ℕ) → FolderState → FolderState → List ℕ → Type 0
+IsDue Usage words old new line = IsMisused words line
+IsDue (Refused refusal) words old new line = IsRefusal words old new refusal line
+IsDue (ReadFault kind) words old new line = IsUnread words old new kind line
+IsDue Done words old new line = ⊥
+IsDue WriteFault words old new line = ⊥
+IsDue Memory words old new line = ⊥
+
+-- The output file holds the whole text of the placement, the report got the whole report, and no count of faults changed.
 pub record IsDone (words : List (List ℕ)) (folder folder' : FolderState) (report report' : SinkState) : Type 0 where
-  pub text : List ℕ
-  pub due : IsReport words folder folder' text
-  pub got : Appends report.written report'.written text
+  pub placed : PlacedValue
+  pub due : IsPlacedAs words folder folder' placed
+  pub file : HasFile (output_name due.request.design) placed.file folder folder'
+  pub got : Appends report.written report'.written placed.report
+  pub writes : folder'.write_faults ≡ folder.write_faults
   pub puts : report'.faults ≡ report.faults
 
-pub record IsUsage (words : List (List ℕ)) (report report' : SinkState) : Type 0 where
+pub record IsUsage (words : List (List ℕ)) (folder folder' : FolderState) (report report' : SinkState) : Type 0 where
   pub line : List ℕ
   pub due : IsMisused words line
+  pub untouched : IsUntouched folder folder'
   pub got : Got report report' line
 
 pub record IsRefused (words : List (List ℕ)) (refusal : Refusal) (folder folder' : FolderState) (report report' : SinkState) : Type 0 where
   pub line : List ℕ
   pub due : IsRefusal words folder folder' refusal line
+  pub untouched : IsUntouched folder folder'
   pub got : Got report report' line
 
 pub record IsReadFault (words : List (List ℕ)) (kind : FileKind) (folder folder' : FolderState) (report report' : SinkState) : Type 0 where
   pub line : List ℕ
   pub due : IsUnread words folder folder' kind line
+  pub untouched : IsUntouched folder folder'
   pub got : Got report report' line
 
-pub record IsWriteFault (words : List (List ℕ)) (folder folder' : FolderState) (report report' : SinkState) : Type 0 where
-  pub text : List ℕ
-  pub due : IsReport words folder folder' text
-  pub got : GotFront report report' text
-  pub rose : Rose report.faults report'.faults
+-- The output file couldn't be made, or couldn't be written, and then nothing was put to the report; or it stands whole, and the
+-- report couldn't be written.
+pub data IsUnwritten (name : List ℕ) (placed : PlacedValue) (folder folder' : FolderState) (report report' : SinkState) : Type 0 where
+  not_made : Rose folder.write_faults folder'.write_faults → folder'.files ≡ folder.files → report' ≡ report → IsUnwritten name placed folder folder' report report'
+  not_put : Rose folder.write_faults folder'.write_faults → HasFront name placed.file folder folder' → report' ≡ report → IsUnwritten name placed folder folder' report report'
+  not_reported : Rose report.faults report'.faults → HasFile name placed.file folder folder' → folder'.write_faults ≡ folder.write_faults
+      → GotFront report report' placed.report → IsUnwritten name placed folder folder' report report'
 
--- Nothing was put, or a front of what was due under another status; and no put failed.
+pub record IsWriteFault (words : List (List ℕ)) (folder folder' : FolderState) (report report' : SinkState) : Type 0 where
+  pub placed : PlacedValue
+  pub due : IsPlacedAs words folder folder' placed
+  pub unwritten : IsUnwritten (output_name due.request.design) placed folder folder' report report'
+
+-- How far what was placed had been put: the output file as before, or with a front of the text, and nothing put to the report; or
+-- with the whole text, and a front of the report.
+pub data IsPutUpTo (name : List ℕ) (placed : PlacedValue) (folder folder' : FolderState) (report report' : SinkState) : Type 0 where
+  none_put : folder'.files ≡ folder.files → report' ≡ report → IsPutUpTo name placed folder folder' report report'
+  file_put : HasFront name placed.file folder folder' → report' ≡ report → IsPutUpTo name placed folder folder' report report'
+  report_put : HasFile name placed.file folder folder' → GotFront report report' placed.report → IsPutUpTo name placed folder folder' report report'
+
+-- Where memory was wanting: before anything was put; in a line that was due under another status; or in what was placed.
+pub data IsCutOff (words : List (List ℕ)) (folder folder' : FolderState) (report report' : SinkState) : Type 0 where
+  cut_before : folder'.files ≡ folder.files → report' ≡ report → IsCutOff words folder folder' report report'
+  cut_in_line : (status : Status) (line : List ℕ) → IsDue status words folder folder' line → folder'.files ≡ folder.files → GotFront report report' line
+      → IsCutOff words folder folder' report report'
+  cut_in_placement : (placed : PlacedValue) (due : IsPlacedAs words folder folder' placed) → IsPutUpTo (output_name due.request.design) placed folder folder' report report'
+      → IsCutOff words folder folder' report report'
+
+-- and no write or put failed
 pub record IsMemory (words : List (List ℕ)) (folder folder' : FolderState) (report report' : SinkState) : Type 0 where
-  pub got : Appends report.written report'.written []
-      ⊎ ((status : Status) × (text : List ℕ) × IsDue status words folder folder' text × GotFront report report' text)
+  pub cut_off : IsCutOff words folder folder' report report'
+  pub writes : folder'.write_faults ≡ folder.write_faults
   pub puts : report'.faults ≡ report.faults
 
 -- what the status says
 abbrev pub Says : Status → List (List ℕ) → FolderState → FolderState → SinkState → SinkState → Type 0
 Says Done words folder folder' report report' = IsDone words folder folder' report report'
-Says Usage words folder folder' report report' = IsUsage words report report'
+Says Usage words folder folder' report report' = IsUsage words folder folder' report report'
 Says (Refused refusal) words folder folder' report report' = IsRefused words refusal folder folder' report report'
 Says (ReadFault kind) words folder folder' report report' = IsReadFault words kind folder folder' report report'
 Says WriteFault words folder folder' report report' = IsWriteFault words folder folder' report report'
 Says Memory words folder folder' report report' = IsMemory words folder folder' report report'
 
--- the design that the words ask for is accepted: its files have no fault, nor has what they make, and each point has a chain
+-- The design that the words ask for can be placed: its files have no fault, nor has what they make, each point has a chain, and the
+-- greedy rule finds room for each cell.
 pub record IsPlaceable (words : List (List ℕ)) (files : List FileEntry) : Type 0 where
   pub request : RequestValue
   pub names : AuxEntry
@@ -141,15 +192,15 @@ pub record IsPlaceable (words : List (List ℕ)) (files : List FileEntry) : Type
   pub joined : IsJoined records design
   pub wired : IsNetwork design network
   pub chains : (p : ℕ) → p < length network.points → HasChain (joints_of network) p
+  pub room : (levels : List Level) (cells : CellsValue) → IsLevels network request.levels levels → AreCells design (level_at levels request.levels) cells
+      → (sites : List Place) × IsLegalised (segments_of design) cells sites
 
 -- no count of faults rose
 abbrev pub AreReadsCalm : FolderState → FolderState → Type 0
 AreReadsCalm old new = Rose old.read_faults new.read_faults → ⊥
 
+abbrev pub AreWritesCalm : FolderState → FolderState → Type 0
+AreWritesCalm old new = Rose old.write_faults new.write_faults → ⊥
+
 abbrev pub ArePutsCalm : SinkState → SinkState → Type 0
 ArePutsCalm old new = Rose old.faults new.faults → ⊥
-
--- the files are as before, and nothing was written
-pub record IsUntouched (old new : FolderState) : Type 0 where
-  pub files : new.files ≡ old.files
-  pub write_faults : new.write_faults ≡ old.write_faults

@@ -1,10 +1,11 @@
 //! Who solves.
 
-ghost use Rattle.std.specs.Prelude.{◌≡◌, ◌≤◌, IfOk};
+ghost use Rattle.std.specs.Prelude.{◌≡◌, ◌≤◌, length, IfOk};
 ghost use Rattle.pad_reach.specs.Reaches.{Reaches};
 ghost use Rattle.net_model.specs.Webs.{joints_of};
 ghost use Rattle.relax_crew.specs.Crew.{IsCrewSize};
 ghost use Rattle.proud_top.specs.Solve.{AreSolved};
+ghost use Rattle.proud_top.specs.Forms.Over.{IsLastOver};
 
 use book_outer::Gate;
 use book_text::Memory;
@@ -42,7 +43,8 @@ impl<'a, R: Threads + Sync, G: Gate> Crew<'a, R, G> {
     ) -> Result<Levels, Memory>
         requires reach { Reaches (joints_of network.now) reach.now }
         requires few { count ≤ MOST_LEVELS }
-        ensures { IfOk result (AreSolved network.now count) }
+        ensures solved { IfOk result (AreSolved network.now count) }
+        ensures over { IfOk result (IsLastOver (length network.now.points) count) }
     {
         levels_enclose();
         reach_leads();

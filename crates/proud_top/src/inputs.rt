@@ -4,13 +4,14 @@ ghost use Rattle.std.specs.Prelude.{◌≡◌, ◌<◌, length, IfOk, IfSome, op
 ghost use Rattle.std.specs.List.{count_by};
 ghost use Rattle.book_files.specs.declared.records.FileKind.TheVariants.{Wts};
 ghost use Rattle.book_files.specs.Entries.{node_entries};
+ghost use Rattle.book_design.specs.Values.{node_values};
 ghost use Rattle.book_design.specs.Points.{is_movable};
 ghost use Rattle.proud_top.specs.Forms.Inputs.{IsSound, IsSameRecords, IsSoundText, AreWeights, AreRecords};
 ghost use Rattle.proud_top.specs.Forms.Stops.{IsNameAt, IsPointNamed};
 
 use crate::laws::laws;
 use crate::stop::Stop;
-use book_design::{Design, join_design};
+use book_design::{Design, Node, join_design, joined_nodes};
 use book_files::{
     FileKind, NodeLine, ReadError, WeightFile, read_nets, read_nodes, read_pl, read_scl, read_wts,
 };
@@ -43,7 +44,7 @@ impl Model for Inputs {
 impl Inputs {
     ghost use Rattle.proud_top.specs.Forms.Inputs.{text_of};
     ghost use Rattle.proud_top.specs.Named.{IsNodeName, IsPointName};
-    ghost use Rattle.proud_top.specs.Forms.Stops.{Designs, HasNode, HasPoint, IsDesignOf};
+    ghost use Rattle.proud_top.specs.Forms.Stops.{Designs, HasNode, HasPoint};
 
     /// The bytes of the file of the kind, where the design has one.
     pub(crate) fn file(&self, kind: FileKind) -> Option<&[u8]>
@@ -88,18 +89,10 @@ impl Inputs {
         ensures { IfOk result (λ name. IsPointName (AreRecords self.now) name.items point) }
     {
         laws();
-        let design = self.joined(alloc)?;
-        name_of_point(alloc, &design, point)
-    }
-
-    /// The design of texts that make one: for those memory alone can be wanting.
-    fn joined(&self, alloc: Global) -> Result<Design<'_>, Memory>
-        ensures { IfOk result (IsDesignOf self.now) }
-    {
-        match self.design(alloc) {
-            Ok(design) => Ok(design),
-            Err(_) => Err(Memory),
-        }
+        let lines = sound(read_nodes(alloc, &self.nodes))?;
+        let pl = sound(read_pl(alloc, &self.pl))?;
+        let nodes = joined_nodes(alloc, &lines, &pl)?;
+        name_of_point(alloc, &nodes, point)
     }
 }
 
@@ -134,11 +127,19 @@ fn name_at(alloc: Global, nodes: &[NodeLine<'_>], number: u32) -> Result<Vec<u8>
     Ok(Vec::from_slice(alloc, nodes[number as usize].name.0)?)
 }
 
-/// The name of the node that is the point.
-fn name_of_point(alloc: Global, design: &Design<'_>, point: u32) -> Result<Vec<u8>, Memory>
-    requires { point < count_by is_movable design.now.nodes }
-    ensures { IfOk result (λ name. IsPointNamed design.now name.items point) }
+/// The name of the movable node that so many movable ones stand before.
+fn name_of_point(alloc: Global, nodes: &[Node<'_>], point: u32) -> Result<Vec<u8>, Memory>
+    requires { point < count_by is_movable (node_values nodes.now) }
+    ensures { IfOk result (λ name. IsPointNamed (node_values nodes.now) name.items point) }
 {
-    let node = design.node_of(point);
-    Ok(Vec::from_slice(alloc, design.nodes()[node as usize].name.0)?)
+    let mut left = point;
+    for node in nodes {
+        if !node.fixed {
+            if left == 0 {
+                return Ok(Vec::from_slice(alloc, node.name.0)?);
+            }
+            left -= 1;
+        }
+    }
+    unreachable!()
 }

@@ -1,4 +1,4 @@
-//! What the laws of the readers, of the join, of the network and of the levels say together.
+//! What the laws of the readers, of the join, of the network, of the levels and of the rows say together.
 
 ghost use Rattle.std.specs.Prelude.{◌≡◌, ℕ, List};
 ghost use Rattle.book_files.specs.Grammar.{HasOneAnswer};
@@ -15,14 +15,18 @@ ghost use Rattle.net_model.specs.Values.{NetworkValue};
 ghost use Rattle.net_model.specs.Answers.{HasOneNetwork};
 ghost use Rattle.level_run.specs.declared.level.Level.{Level};
 ghost use Rattle.level_run.specs.Levels.{IsLevels, IsGap};
+ghost use Rattle.row_space.specs.Values.{SegmentsValue};
+ghost use Rattle.row_legal.specs.Cells.{CellsValue};
+ghost use Rattle.row_legal.specs.OneAnswer.{HasOneAnswerAtMost};
 
 use book_design::one_join;
 use book_files::one_answer;
 use level_run::{gap_is_one, levels_are_one};
 use net_model::one_network;
+use row_legal::one_answer as one_legalisation;
 
 /// A text of each kind has one answer, the files together have one, and so have the nets of a design; a network has at most one
-/// list of levels, and levels have one gap.
+/// list of levels, and levels have one gap; and the greedy rule ends in one way at most.
 pub(crate) fn laws()
     ensures aux { (text : List ℕ) → HasOneAnswer aux_grammar text }
     ensures nodes { (text : List ℕ) → HasOneAnswer nodes_grammar text }
@@ -34,10 +38,12 @@ pub(crate) fn laws()
     ensures network { (design : DesignValue) → HasOneNetwork design }
     ensures levels { (network : NetworkValue) (count : ℕ) (a b : List Level) → IsLevels network count a → IsLevels network count b → a ≡ b }
     ensures gap { (levels : List Level) (a b : ℕ) → IsGap levels a → IsGap levels b → a ≡ b }
+    ensures greedy { (rows : SegmentsValue) (cells : CellsValue) → HasOneAnswerAtMost rows cells }
 {
     one_answer();
     one_join();
     one_network();
     levels_are_one();
     gap_is_one();
+    one_legalisation();
 }

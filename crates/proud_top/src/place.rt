@@ -3,20 +3,26 @@
 ghost use Rattle.std.specs.Prelude.{◌≤◌};
 ghost use Rattle.proud_top.specs.Forms.Stops.{Places};
 
+use crate::cells::point_cells;
 use crate::crew::Crew;
 use crate::inputs::Inputs;
+use crate::placement::placement_text;
 use crate::report::report_text;
 use crate::stop::Stop;
 use book_outer::Gate;
 use level_run::MOST_LEVELS;
 use net_model::network;
 use pad_reach::reach;
+use row_legal::legalise;
+use row_space::segments;
 use std::alloc::Global;
 use std::thread::Threads;
 
 /// What a placed design puts.
 #[derive(Drop)]
 pub(crate) struct Placed {
+    /// The text of its placement.
+    pub(crate) file: Vec<u8>,
     /// The report's text.
     pub(crate) report: Vec<u8>,
 }
@@ -35,6 +41,10 @@ pub(crate) fn place<R: Threads + Sync, G: Gate>(
     let network = network(alloc, &design)?;
     let reach = reach(alloc, &network)?;
     let levels = crew.solve(alloc, &network, &reach, count)?;
-    let report = report_text(alloc, design.nodes(), &levels, count)?;
-    Ok(Placed { report })
+    let segments = segments(alloc, &design)?;
+    let cells = point_cells(alloc, &design, &levels, count)?;
+    let sites = legalise(alloc, &segments, &cells.sites, &cells.wishes)?;
+    let file = placement_text(alloc, &design, &segments, &sites)?;
+    let report = report_text(alloc, &design, &levels, count)?;
+    Ok(Placed { file, report })
 }

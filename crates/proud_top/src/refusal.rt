@@ -1,7 +1,7 @@
 //! The line of a stop: what it says, and the name of the node that it names.
 
 ghost use Rattle.std.specs.Prelude.{◌≡◌, ◌++◌, IfOk, IfSome, OnOk, option_map};
-ghost use Rattle.proud_top.specs.Lines.{kind_text, cannot_read_line, line_place, size_cause, count_cause, text_cause, node_cause, row_cause, limit_cause, design_cause, wide_cause, edges_cause, net_cause, cause_text, refusal_line};
+ghost use Rattle.proud_top.specs.Lines.{kind_text, cannot_read_line, line_place, size_cause, count_cause, text_cause, node_cause, row_cause, limit_cause, design_cause, wide_cause, edges_cause, net_cause, room_cause, cause_text, refusal_line};
 ghost use Rattle.proud_top.specs.Named.{node_of, point_of, node_of_fault, point_of_fault, IsNameIn, IsNodeName, IsPointName};
 ghost use Rattle.proud_top.specs.Forms.Inputs.{AreRecords};
 ghost use Rattle.proud_top.specs.Forms.Stops.{AreRecordsOf, HasNode, HasPoint, Covers, CoversStop, IsLineOf};
@@ -56,6 +56,7 @@ fn name_among(alloc: Global, refusal: Refusal, inputs: &Inputs) -> Result<Vec<u8
         Refusal::Design(fault) => name_of_node(alloc, node_of_fault(fault), inputs),
         Refusal::Net(fault) => name_of_point(alloc, point_of_fault(fault), inputs),
         Refusal::Unanchored(point) => inputs.point_name(alloc, point),
+        Refusal::NoRoom { cell, .. } => inputs.point_name(alloc, cell),
         Refusal::TooLong(_) | Refusal::Text(..) => Ok(Vec::new(alloc)),
     }
 }
@@ -145,6 +146,7 @@ fn push_cause(
         Refusal::Design(fault) => push_design_cause(alloc, line, fault, name),
         Refusal::Net(fault) => push_net_cause(alloc, line, fault, name),
         Refusal::Unanchored(_) => push_node(line, name, "reaches no pad"),
+        Refusal::NoRoom { sites, largest, .. } => push_room(alloc, line, name, sites, largest),
     }
 }
 
@@ -247,6 +249,22 @@ fn push_edges(alloc: Global, line: &mut Vec<u8>, number: u64) -> Result<(), Memo
 {
     let cause = format!(in alloc; "too many edges: {number}")?;
     push(line, cause.as_str())
+}
+
+/// Appends that there is no room for a node.
+fn push_room(
+    alloc: Global,
+    line: &mut Vec<u8>,
+    name: &[u8],
+    sites: u64,
+    largest: u64,
+) -> Result<(), Memory>
+    ensures { OnOk result (line.new.items ≡ line.old.items ++ room_cause name.now sites largest) }
+{
+    push(line, "node ")?;
+    line.extend_from_slice(name)?;
+    let wrong = format!(in alloc; ": no room for {sites} sites, {largest} left")?;
+    push(line, wrong.as_str())
 }
 
 /// Appends the place of a fault: a file's kind and the number of a line.

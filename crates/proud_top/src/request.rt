@@ -1,15 +1,16 @@
-//! What the words of a command line ask for.
+//! What the words of a command line ask for, and the name of the file that they ask for.
 
-ghost use Rattle.std.specs.Prelude.{◌≡◌, ◌≤◌, None, IfSome, MatchOption};
+ghost use Rattle.std.specs.Prelude.{◌≡◌, ◌≤◌, None, IfOk, IfSome, MatchOption, string_bytes};
 ghost use Rattle.relax_crew.specs.Crew.{IsCrewSize};
 ghost use Rattle.level_run.specs.declared.hierarchy.TheConstants.{MOST_LEVELS};
-ghost use Rattle.proud_top.specs.Request.{asks, requested, levels_in, levels_by, seats_in, seats_by};
+ghost use Rattle.proud_top.specs.Request.{asks, requested, levels_in, levels_by, seats_in, seats_by, stem, output_name};
 ghost use Rattle.proud_top.specs.Forms.Asked.{IsAsked, IsRequest};
 
 use book_outer::Words;
-use book_text::read_whole;
+use book_text::{Memory, read_whole};
 use level_run::MOST_LEVELS;
 use relax_crew::MOST_SEATS;
+use std::alloc::Global;
 
 /// How often the regions are cut where the words don't say.
 const USUAL_LEVELS: u32 = 4;
@@ -109,5 +110,24 @@ fn seats_in(word: &str) -> Option<usize>
     match read_whole(word.as_bytes()) {
         Ok(seats) if 1 <= seats && seats <= MOST_SEATS as u64 => Some(seats as usize),
         Ok(_) | Err(_) => None,
+    }
+}
+
+/// The name of the output file: that of the design without a final `.aux`, and `.proud.pl`.
+pub(crate) fn output_name(alloc: Global, design: &str) -> Result<String, Memory>
+    ensures { IfOk result (λ name. string_bytes name ≡ output_name design.now) }
+{
+    let mut name = String::from_str(alloc, stem(design))?;
+    name.push_str(".proud.pl")?;
+    Ok(name)
+}
+
+/// A name without a final `.aux`.
+fn stem(name: &str) -> &str
+    ensures { result.now ≡ stem name.now }
+{
+    match name.strip_suffix(".aux") {
+        Some(stem) => stem,
+        None => name,
     }
 }

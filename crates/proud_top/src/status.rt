@@ -9,7 +9,7 @@ use net_model::NetFault;
 /// How a run ended.
 #[derive(Clone, Copy, Debug, PartialEq, Eq)]
 pub enum Status {
-    /// The report got its text.
+    /// The output file holds the placement, and the report got its text.
     Done,
     /// The words have another form.
     Usage,
@@ -17,14 +17,14 @@ pub enum Status {
     Refused(Refusal),
     /// A file couldn't be read.
     ReadFault(FileKind),
-    /// The report couldn't be written.
+    /// The output file or the report couldn't be written.
     WriteFault,
     /// Want of memory.
     Memory,
 }
 
 /// Why a design was refused: the first cause in the order of the files, then of the files together, then
-/// of the nets, then of the points.
+/// of the nets, then of the points, then of the rows.
 #[derive(Clone, Copy, Debug, PartialEq, Eq)]
 pub enum Refusal {
     /// The file has more than 268,435,456 bytes.
@@ -37,6 +37,9 @@ pub enum Refusal {
     Net(NetFault),
     /// The first point from which no chain of nets leads to a pad.
     Unanchored(u32),
+    /// The first point, in the order in which cells are taken, for which no segment has room: how many sites it takes, and
+    /// the largest room left.
+    NoRoom { cell: u32, sites: u64, largest: u64 },
 }
 
 impl Status {

@@ -5,8 +5,9 @@ use book_design::JoinError;
 use book_files::FileKind;
 use net_model::NetError;
 use pad_reach::ReachError;
+use row_legal::LegalError;
 
-/// Why a run stops before there is a report.
+/// Why a run stops before there is a placement.
 #[derive(Clone, Copy, Debug, PartialEq, Eq)]
 pub(crate) enum Stop {
     /// The file couldn't be read.
@@ -52,6 +53,27 @@ impl From<ReachError> for Stop {
         match error {
             ReachError::Unanchored(point) => Stop::Refused(Refusal::Unanchored(point)),
             ReachError::Memory => Stop::Memory,
+        }
+    }
+}
+
+impl From<LegalError> for Stop {
+    ghost use Rattle.proud_top.specs.Forms.Stops.{stop_of_legal};
+
+    ghost from_gives = { λ error stop. stop ≡ stop_of_legal error };
+
+    fn from(error: LegalError) -> Stop {
+        match error {
+            LegalError::NoRoom {
+                cell,
+                sites,
+                largest,
+            } => Stop::Refused(Refusal::NoRoom {
+                cell,
+                sites,
+                largest,
+            }),
+            LegalError::Memory => Stop::Memory,
         }
     }
 }

@@ -3,12 +3,12 @@ ghost use Rattle.book_outer.specs.Files.{FileEntry};
 ghost use Rattle.book_files.specs.declared.records.FileKind.{FileKind};
 ghost use Rattle.proud_top.specs.declared.status.Refusal.{Refusal};
 ghost use Rattle.proud_top.specs.Request.{RequestValue, requested};
-ghost use Rattle.proud_top.specs.Flow.{places};
-ghost use Rattle.proud_top.specs.Statuses.{Says, IsDone, IsUsage, IsRefused, IsReadFault, IsWriteFault, IsMemory, IsCause, IsPlaceable, AreReadsCalm, ArePutsCalm, IsUntouched};
-ghost use Rattle.proud_top.specs.Forms.Saying.{Puts};
+ghost use Rattle.proud_top.specs.Flow.{PlacedValue, places};
+ghost use Rattle.proud_top.specs.Statuses.{Says, IsDone, IsUsage, IsRefused, IsReadFault, IsWriteFault, IsMemory, IsCause, IsPlaceable, AreReadsCalm, AreWritesCalm, ArePutsCalm};
 ghost use Rattle.proud_top.specs.Forms.Stops.{CoversStop, Refuses};
 
 use crate::crew::Crew;
+use crate::deliver::{deliver, put};
 use crate::gather::gather;
 use crate::inputs::Inputs;
 use crate::laws::laws;
@@ -17,16 +17,18 @@ use crate::refusal::fault_line;
 use crate::request::requested;
 use crate::status::Status;
 use crate::stop::Stop;
-use book_outer::{Folder, Gate, Sink, Trouble, Words};
+use book_outer::{Folder, Gate, Sink, Words};
 use std::alloc::Global;
 use std::thread::Threads;
 
-/// Places the design that the words name, and reports for each cell its lower and its upper coordinate on each axis.
+/// Places the design that the words name, and writes its placement.
 ///
 /// The words are the program's name, `--levels N` and `--seats N` where a number of levels or of seats is asked for, and the
-/// name of the design's aux file; 4 levels and 4 seats are usual. The report gets one line per cell, `NAME XLO XHI YLO YHI` in
-/// millionths of a Bookshelf unit, and then `levels L gap G`, or, where the words, a file or the design is at fault, one line
-/// that says so. It doesn't depend on the number of seats. The gate is called in the first sweep of each crew.
+/// name of the design's aux file; 4 levels and 4 seats are usual. The output file has the design's name without a final `.aux`,
+/// followed by `.proud.pl`, and may be one of those that were read. It is made only when all is read and placed, and gets a line
+/// `NAME X Y : ORIENT` for each node. The report then gets `cells M terminals T nets N pins P` and `levels L gap G`, or, where
+/// the words, a file or the design is at fault, one line that says so. Both don't depend on the number of seats. The gate is
+/// called in the first sweep of each crew.
 pub fn proud<R: Threads + Sync, F: Folder, S: Sink, G: Gate>(
     rt: &R,
     alloc: Global,
@@ -38,7 +40,8 @@ pub fn proud<R: Threads + Sync, F: Folder, S: Sink, G: Gate>(
     // Each status has one record: why it comes, and what stands then.
     ensures done { result ≡ Status.Done
         → IsDone words.now (F.state folder.old) (F.state folder.new) (S.state report.old) (S.state report.new) }
-    ensures usage { result ≡ Status.Usage → IsUsage words.now (S.state report.old) (S.state report.new) }
+    ensures usage { result ≡ Status.Usage
+        → IsUsage words.now (F.state folder.old) (F.state folder.new) (S.state report.old) (S.state report.new) }
     ensures refused { (refusal : Refusal) → result ≡ Status.Refused refusal
         → IsRefused words.now refusal (F.state folder.old) (F.state folder.new) (S.state report.old) (S.state report.new) }
     ensures read_fault { (kind : FileKind) → result ≡ Status.ReadFault kind
@@ -53,17 +56,15 @@ pub fn proud<R: Threads + Sync, F: Folder, S: Sink, G: Gate>(
         → ((result ≡ Status.Usage) ⊎ (result ≡ Status.Memory)) × (F.state folder.new ≡ F.state folder.old) }
 
     // Where the files are known, the flow has one end at most, and a run without a fault has it.
-    ensures one_end { (files : List FileEntry) (request : RequestValue) (a b : Result (List ℕ) Refusal)
+    ensures one_end { (files : List FileEntry) (request : RequestValue) (a b : Result PlacedValue Refusal)
         → places (Some files) request a → places (Some files) request b → a ≡ b }
     ensures only_refused { (files : List FileEntry) (refusal : Refusal) → (F.state folder.old).files ≡ Some files
         → IsCause words.now (Some files) refusal → AreReadsCalm (F.state folder.old) (F.state folder.new)
         → (result ≡ Status.Refused refusal) ⊎ (result ≡ Status.Memory) }
     ensures complete { (files : List FileEntry) → (F.state folder.old).files ≡ Some files
-        → IsPlaceable words.now files → AreReadsCalm (F.state folder.old) (F.state folder.new) → ArePutsCalm (S.state report.old) (S.state report.new)
+        → IsPlaceable words.now files → AreReadsCalm (F.state folder.old) (F.state folder.new) → AreWritesCalm (F.state folder.old) (F.state folder.new)
+        → ArePutsCalm (S.state report.old) (S.state report.new)
         → (result ≡ Status.Done) ⊎ (result ≡ Status.Memory) }
-
-    // The folder's files stay as they were, and nothing is written there.
-    ensures untouched { IsUntouched (F.state folder.old) (F.state folder.new) }
 {
     laws();
     run(rt, alloc, words, folder, report, gate)
@@ -83,7 +84,6 @@ fn run<R: Threads + Sync, F: Folder, S: Sink, G: Gate>(
 ) -> Status
     ensures says { Says result words.now (F.state folder.old) (F.state folder.new) (S.state report.old) (S.state report.new) }
     ensures misused { requested words.now ≡ None → F.state folder.new ≡ F.state folder.old }
-    ensures untouched { IsUntouched (F.state folder.old) (F.state folder.new) }
 {
     let Some(request) = requested(words) else {
         return put(report, USAGE_LINE, Status::Usage, Status::Usage);
@@ -94,19 +94,8 @@ fn run<R: Threads + Sync, F: Folder, S: Sink, G: Gate>(
     };
     let crew = Crew::new(rt, gate, request.seats);
     match place(&crew, alloc, &inputs, request.levels) {
-        Ok(placed) => put(report, &placed.report, Status::Done, Status::WriteFault),
+        Ok(placed) => deliver(alloc, folder, report, request.design, &placed),
         Err(stop) => refuse(alloc, report, stop, Some(&inputs)),
-    }
-}
-
-/// Puts a text, and answers the one status where all of it stands, and the other where the put failed.
-fn put<S: Sink>(report: &mut S, text: &[u8], done: Status, failed: Status) -> Status
-    ensures { Puts text.now done failed (S.state report.old) (S.state report.new) result }
-{
-    match report.put(text) {
-        Ok(()) => done,
-        Err(Trouble::Failed) => failed,
-        Err(Trouble::Memory) => Status::Memory,
     }
 }
 

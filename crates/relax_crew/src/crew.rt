@@ -5,7 +5,8 @@ ghost use Rattle.std.specs.Thread.{IsSync};
 ghost use Rattle.relax_system.specs.Sides.{starts_of, IsExtremal};
 ghost use Rattle.relax_table.specs.Seats.{IsSeatOf};
 ghost use Rattle.relax_crew.specs.Crew.{IsCrewSize};
-ghost use Rattle.relax_crew.specs.Forms.Turns.{AllSeated, AllSingle, AllExtremal, SweepsOnce, BeginsWithSweep, IsTurn};
+ghost use Rattle.relax_table.specs.Forms.Sweep.{SweepsOnce};
+ghost use Rattle.relax_crew.specs.Forms.Turns.{AllSeated, AllSingle, AllExtremal, BeginsWithTwoSweeps, IsTurn};
 
 use crate::range::{MOST_SEATS, range_of};
 use crate::spaced::Spaced;
@@ -110,7 +111,7 @@ fn run<D: Direction, R: Threads + Sync, G: Gate>(
     );
 }
 
-/// What the thread of seat `k` does: first of all a sweep over its own range. Its steps aren't counted.
+/// What the thread of seat `k` does: first of all two sweeps over its own range. Its steps aren't counted.
 fn take_turn<D: Direction, G: Gate>(
     table: &SideTable<'_, D>,
     one: &mut Spaced<D>,
@@ -150,7 +151,7 @@ fn work<D: Direction, L: Ledger, G: Gate>(
     requires any { 0 < L.parts }
     ensures own { IsSeatOf table.now seat.new }
     ensures extremal { IsExtremal D.side table.now.system seat.new.seen }
-    ensures swept { BeginsWithSweep table.now.system range.0 range.1 seat.old seat.new }
+    ensures swept { BeginsWithTwoSweeps table.now.system range.0 range.1 seat.old seat.new }
 {
     let mut steps = Steps::<L>::new(blank);
     let (from, to) = range;

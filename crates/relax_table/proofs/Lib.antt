@@ -5,5 +5,6 @@ pub mod Seen
 pub mod Sounds
 pub mod Moves
 pub mod Seated
+pub mod Ranges
 pub mod Sweeps
 pub mod Literal

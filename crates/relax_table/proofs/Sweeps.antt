@@ -19,10 +19,12 @@ use Rattle.relax_table.specs.Ways.{distance, IsQuietVector, IsQuietIn}
 use Rattle.relax_table.specs.Step.{word_after}
 use Rattle.relax_table.specs.Step.Kind.{Renew}
 use Rattle.relax_table.proofs.Vectors.{mean_of-set}
-use Rattle.relax_table.specs.Seats.{TableState, SeatState, IsSeatOf, IsSound, Advances, Continues, sweep_steps}
+use Rattle.relax_table.specs.Seats.{TableState, SeatState, IsSeatOf, IsSound, Advances, Continues, near_numbers, sweep_steps}
+use Rattle.relax_table.specs.Forms.Sweep.{SweepsOnce}
 use Rattle.relax_table.proofs.Numbers.{apart-positive}
 use Rattle.relax_table.proofs.Distances.{distance-add, distance_to_set}
 use Rattle.relax_table.proofs.Seated.{advances_on, advances_none, continues_on, continues_none}
+use Rattle.relax_table.proofs.Ranges.{once_none, once_more}
 
 -- whether a vector went on, or stayed as it was
 abbrev pub WentOn : Side → Bool → List ℕ → List ℕ → Type 0
@@ -129,7 +131,7 @@ pub record IsSweptTo (side : Side) (t : TableState) (from i : ℕ) (old new : Se
   pub advances : Advances side old new
   pub counted : now + (old.loads + old.fetches) ≡ first + (new.loads + new.fetches)
   pub cost : now ≡ first + sweep_steps t.system from i
-  pub continues : Continues old new
+  pub once : SweepsOnce t.system from i old new
   pub all : length old.seen ≡ length new.seen
   pub went : WentOn side moved old.seen new.seen
   pub quiet : moved ≡ false → IsQuietIn side t.system from i new.seen
@@ -144,15 +146,15 @@ still side false u v e h = h
 
 pub swept_more : (side : Side) (t : TableState) (from i : ℕ) (old mid new : SeatState) (first now now' : ℕ) (moved b : Bool) → IsSweptTo side t from i old mid first now moved → from ≤ i → i < length t.system → IsSeatOf t new → Advances side mid new
     → (new.loads ≡ mid.loads + length (point_at t.system i).near) × (new.fetches ≡ mid.fetches + 1) → Before side (mean_of side t.system i new.seen) (slice_index new.seen i) → WentOn side b mid.seen new.seen
-    → now' ≡ now + (length (point_at t.system i).near + 1) → Continues mid new → IsSweptTo side t from (i + 1) old new first now' (moved || b)
-swept_more side t from i old mid new first now now' moved b h order there own advances counts quiet went steps continues =
+    → now' ≡ now + (length (point_at t.system i).near + 1) → (new.looked ≡ mid.looked ++ near_numbers t.system i) × (new.renewed ≡ mid.renewed ++ i ∷ []) × (new.parts ≡ mid.parts) → IsSweptTo side t from (i + 1) old new first now' (moved || b)
+swept_more side t from i old mid new first now now' moved b h order there own advances counts quiet went steps points =
     let same : length mid.seen ≡ length new.seen = seen_all side mid new h.advances.sound advances in
     record {
       own = own;
       advances = advances_on side old mid new h.advances advances;
       counted = omega (arith, h.counted, counts.0, counts.1);
       cost = omega (arith, h.cost, sweep_steps-more t.system from i order there);
-      continues = continues_on old mid new h.continues continues;
+      once = once_more t.system from i old mid new order h.once points;
       all = h.all ∙ same;
       went = went_both side old.seen mid.seen new.seen moved b h.all same h.advances.further advances.further h.went went;
       quiet = λ none k low high.

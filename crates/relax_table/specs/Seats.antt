@@ -1,5 +1,6 @@
 -- What clauses see of a table and of a seat.
 use Rattle.std.specs.Prelude.{◌≡◌, ◌≢◌, ℕ, ◌+◌, ◌-◌, ◌≤◌, List, ◌++◌, length, map, take, drop, sum_by, All}
+use Rattle.std.specs.List.{range_with_len, flat_map}
 use Rattle.atomic_table.specs.Seated.{TableId}
 use Rattle.relax_system.specs.declared.side.Side.{Side}
 use Rattle.relax_system.specs.declared.points.Point.{Point}
@@ -60,6 +61,25 @@ pub record Continues (old new : SeatState) : Type 0 where
   pub looked : IsFront old.looked new.looked
   pub renewed : IsFront old.renewed new.renewed
 
+-- the numbers from the one to before the other
+abbrev pub numbers_between : ℕ → ℕ → List ℕ
+numbers_between from to = range_with_len from (to - from)
+
+-- the numbers of a point's neighbours, one for each entry
+abbrev pub near_numbers : List Point → ℕ → List ℕ
+near_numbers points i = map (λ n. n.point) (point_at points i).near
+
+-- the neighbours of these points, in order
+abbrev pub nears_between : List Point → ℕ → ℕ → List ℕ
+nears_between points from to = flat_map (near_numbers points) (numbers_between from to)
+
+-- Each point from the one to before the other was first relaxed once, in order: a look at each neighbour and one fetch. Perhaps
+-- more was done then. The seat is still made of as many seats.
+pub record BeginsWithSweep (points : List Point) (from to : ℕ) (old new : SeatState) : Type 0 where
+  pub parts : new.parts ≡ old.parts
+  pub looked : IsFront (old.looked ++ nears_between points from to) new.looked
+  pub renewed : IsFront (old.renewed ++ numbers_between from to) new.renewed
+
 -- A call left the seat at its table, with no entry back on its way.
 pub record Advances (side : Side) (old new : SeatState) : Type 0 where
   pub same_table : new.table ≡ old.table
@@ -72,10 +92,6 @@ pub record Advances (side : Side) (old new : SeatState) : Type 0 where
 -- the points from the one number to the other, and the entries of their neighbours
 abbrev pub sweep_steps : List Point → ℕ → ℕ → ℕ
 sweep_steps points from to = sum_by (λ p. length p.near + 1) (take (to - from) (drop from points))
-
--- the numbers of a point's neighbours, one for each entry
-abbrev pub near_numbers : List Point → ℕ → List ℕ
-near_numbers points i = map (λ n. n.point) (point_at points i).near
 
 -- no entry of this point is among the neighbours of the point i
 abbrev pub IsNoNeighbour : List Point → ℕ → ℕ → Type 0

@@ -2,7 +2,8 @@
 
 ghost use Rattle.std.specs.Prelude.{◌≡◌, ℕ, ◌+◌, ◌*◌, ◌<◌, ◌≤◌, List, length, MatchBool};
 ghost use Rattle.relax_system.specs.Sides.{IsExtremal};
-ghost use Rattle.relax_table.specs.Seats.{IsSeatOf, Advances, Continues, sweep_steps};
+ghost use Rattle.relax_table.specs.Seats.{IsSeatOf, Advances, Continues, BeginsWithSweep, sweep_steps};
+ghost use Rattle.relax_table.specs.Forms.Sweep.{SweepsOnce};
 ghost use Rattle.relax_table.specs.Ways.{distance, IsQuietVector, IsQuietIn};
 
 use crate::direction::Direction;
@@ -13,7 +14,7 @@ use crate::table::SideTable;
 use std::sync::ledger::Ledger;
 
 impl<'a, D: Direction> SideTable<'a, D> {
-    /// Relaxes the points of a range until what the seat has seen is quiet there.
+    /// Relaxes the points of a range until what the seat has seen is quiet there. Each is relaxed once at least, in order.
     pub fn settle_side<L: Ledger>(
         &self,
         seat: &mut SideSeat<D>,
@@ -27,6 +28,7 @@ impl<'a, D: Direction> SideTable<'a, D> {
         ensures own { IsSeatOf self.now seat.new }
         ensures advances { Advances D.side seat.old seat.new }
         ensures continues { Continues seat.old seat.new }
+        ensures begins { BeginsWithSweep self.now.system from to seat.old seat.new }
         ensures quiet { IsQuietIn D.side self.now.system from to seat.new.seen }
         ensures counted { steps.new + (seat.old.loads + seat.old.fetches) ≡ steps.old + (seat.new.loads + seat.new.fetches) }
         ensures cost { (u : List ℕ) → IsQuietVector D.side self.now.system u → steps.new ≤ steps.old + (distance D.side self.now.start u + 2) * sweep_steps self.now.system from to }
@@ -61,7 +63,7 @@ impl<'a, D: Direction> SideTable<'a, D> {
         requires within { to ≤ length self.now.system }
         ensures own { IsSeatOf self.now seat.new }
         ensures advances { Advances D.side seat.old seat.new }
-        ensures continues { Continues seat.old seat.new }
+        ensures swept { SweepsOnce self.now.system from to seat.old seat.new }
         ensures moved { MatchBool result (1 ≤ distance D.side seat.old.seen seat.new.seen) (IsQuietIn D.side self.now.system from to seat.new.seen) }
         ensures counted { steps.new + (seat.old.loads + seat.old.fetches) ≡ steps.old + (seat.new.loads + seat.new.fetches) }
         ensures steps { steps.new ≡ steps.old + sweep_steps self.now.system from to }

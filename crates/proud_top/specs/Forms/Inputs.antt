@@ -20,7 +20,7 @@ use Rattle.book_design.specs.Records.{Records}
 use Rattle.proud_top.specs.declared.status.Refusal.{Refusal}
 use Rattle.proud_top.specs.Request.{beside}
 use Rattle.proud_top.specs.Accepted.{IsFaultOf}
-use Rattle.proud_top.specs.Flow.{◌then◌, places_records}
+use Rattle.proud_top.specs.Flow.{◌then◌, PlacedValue, places_records}
 
 pub record Texts : Type 0 where
   pub aux : List ℕ
@@ -84,7 +84,7 @@ parses texts (Ok records) = AreRecords texts records
 parses texts (Err refusal) = ⊥
 
 -- the flow from the texts on
-abbrev pub places_texts : ℕ → Texts → Result (List ℕ) Refusal → Type 0
+abbrev pub places_texts : ℕ → Texts → Result PlacedValue Refusal → Type 0
 places_texts count texts = parses texts then places_records count
 
 -- the file of the name holds the text

@@ -1,16 +1,21 @@
 -- Levels over so many points.
-use Rattle.std.specs.Prelude.{◌≡◌, ℕ, ◌<◌, List, length}
+use Rattle.std.specs.Prelude.{◌≡◌, ℕ, ◌<◌, ◌≤◌, List, length, slice_index}
+use Rattle.relax_system.specs.declared.valid.TheConstants.{MOST_COORDINATE}
 use Rattle.level_run.specs.declared.level.Solve.{Solve}
 use Rattle.level_run.specs.declared.level.Level.{Level}
 use Rattle.level_run.specs.Levels.{level_at}
 
--- both sides have an entry for each of so many points
+-- there is a mid for each of so many points, and each is a coordinate
 pub record IsOver (points : ℕ) (solve : Solve) : Type 0 where
-  pub lo : length solve.lo ≡ points
-  pub hi : length solve.hi ≡ points
+  pub all : length solve.mid ≡ points
+  pub near : (p : ℕ) → p < points → slice_index solve.mid p ≤ MOST_COORDINATE
 
--- there are so many levels after the first, and both solves of the last are over so many points
+-- both solves of the level are over so many points
+pub record IsBothOver (points : ℕ) (level : Level) : Type 0 where
+  pub x : IsOver points level.x
+  pub y : IsOver points level.y
+
+-- there are so many levels after the first, and the last of them is over so many points
 pub record IsLastOver (points count : ℕ) (levels : List Level) : Type 0 where
   pub there : count < length levels
-  pub x : IsOver points (level_at levels count).x
-  pub y : IsOver points (level_at levels count).y
+  pub last : IsBothOver points (level_at levels count)

@@ -1,10 +1,10 @@
--- Why a run stops before there is a report: which stop the error of each layer is, and what the steps answer.
+-- Why a run stops before there is a placement: which stop the error of each layer is, and what the steps answer.
 use Rattle.std.specs.Prelude.{◌≡◌, ◌⊎◌, ℕ, ◌<◌, List, [], length, slice_get, Option, Some, None, IfSome, Result, Ok, Err}
 use Rattle.std.specs.List.{count_by}
 use Rattle.book_outer.specs.Cause.{Rose}
 use Rattle.book_outer.specs.State.{FolderState, SinkState}
 use Rattle.book_design.specs.Records.{Records}
-use Rattle.book_design.specs.Values.{DesignValue}
+use Rattle.book_design.specs.Values.{NodeValue, DesignValue}
 use Rattle.book_design.specs.Answers.{IsJoined}
 use Rattle.book_files.specs.Entries.{NodeEntry}
 use Rattle.book_design.specs.Points.{is_movable, node_value_at, IsNodeOf}
@@ -14,9 +14,11 @@ use Rattle.net_model.specs.declared.fault.NetError.{NetError}
 use Rattle.net_model.specs.declared.fault.NetError.TheVariants as net_error
 use Rattle.pad_reach.specs.declared.search.ReachError.{ReachError}
 use Rattle.pad_reach.specs.declared.search.ReachError.TheVariants as reach_error
+use Rattle.row_legal.specs.declared.fault.LegalError.{LegalError}
+use Rattle.row_legal.specs.declared.fault.LegalError.TheVariants as legal_error
 use Rattle.book_files.specs.declared.records.FileKind.TheVariants.{Scl}
 use Rattle.proud_top.specs.declared.status.Refusal.{Refusal}
-use Rattle.proud_top.specs.declared.status.Refusal.TheVariants.{Design, Net, Unanchored}
+use Rattle.proud_top.specs.declared.status.Refusal.TheVariants.{Design, Net, Unanchored, NoRoom}
 use Rattle.proud_top.specs.declared.status.Status.{Status}
 use Rattle.proud_top.specs.declared.status.Status.TheVariants as status
 use Rattle.proud_top.specs.declared.place.Placed.{Placed}
@@ -24,7 +26,8 @@ use Rattle.proud_top.specs.declared.stop.Stop.{Stop}
 use Rattle.proud_top.specs.declared.stop.Stop.TheVariants.{ReadFault, Refused, Memory}
 use Rattle.proud_top.specs.Lines.{cannot_read_line, refusal_line}
 use Rattle.proud_top.specs.Accepted.{IsFaultAt}
-use Rattle.proud_top.specs.Flow.{reads, joins, last_kind}
+use Rattle.proud_top.specs.Placement.{IsLegalText}
+use Rattle.proud_top.specs.Flow.{PlacedValue, reads, joins, last_kind}
 use Rattle.proud_top.specs.Named.{node_of, point_of, IsNameIn}
 use Rattle.proud_top.specs.Statuses.{status_of, HasReadUpTo, IsUntouched}
 use Rattle.proud_top.specs.Forms.Inputs.{Texts, AreRecords, HasTexts, places_texts}
@@ -41,6 +44,10 @@ stop_of_net net_error.Memory = Memory
 abbrev pub stop_of_reach : ReachError → Stop
 stop_of_reach (reach_error.Unanchored point) = Refused (Unanchored point)
 stop_of_reach reach_error.Memory = Memory
+
+abbrev pub stop_of_legal : LegalError → Stop
+stop_of_legal (legal_error.NoRoom cell sites largest) = Refused (NoRoom cell sites largest)
+stop_of_legal legal_error.Memory = Memory
 
 -- the refusal names no node
 pub record IsNameless (refusal : Refusal) : Type 0 where
@@ -65,9 +72,12 @@ Designs texts (Err (Refused refusal)) = (records : Records) × AreRecords texts 
 Designs texts (Err (ReadFault kind)) = ⊥
 Designs texts (Err Memory) = Unit {0}
 
--- the report that the flow from the texts on ends with, or the refusal that stops it
+abbrev pub placed_value : Placed → PlacedValue
+placed_value placed = record { file = placed.file.items; report = placed.report.items }
+
+-- What the flow from the texts on ends with, in which the cells stand legally; or the refusal that stops it.
 abbrev pub Places : ℕ → Texts → Result Placed Stop → Type 0
-Places count texts (Ok placed) = places_texts count texts (Ok placed.report.items)
+Places count texts (Ok placed) = places_texts count texts (Ok (placed_value placed)) × IsLegalText (AreRecords texts) placed.file.items
 Places count texts (Err (Refused refusal)) = places_texts count texts (Err refusal)
 Places count texts (Err (ReadFault kind)) = ⊥
 Places count texts (Err Memory) = Unit {0}
@@ -95,17 +105,11 @@ pub record HasPoint (texts : Texts) (point : ℕ) : Type 0 where
 abbrev pub IsNameAt : List NodeEntry → List ℕ → ℕ → Type 0
 IsNameAt nodes name number = (node : NodeEntry) × (slice_get nodes number ≡ Some node) × (name ≡ node.name)
 
--- the point of the design is a node of this name
-pub record IsPointNamed (design : DesignValue) (name : List ℕ) (point : ℕ) : Type 0 where
+-- the point among the nodes is one of this name
+pub record IsPointNamed (nodes : List NodeValue) (name : List ℕ) (point : ℕ) : Type 0 where
   pub number : ℕ
-  pub node : IsNodeOf design.nodes point number
-  pub named : name ≡ (node_value_at design.nodes number).name
-
--- the texts make the design
-pub record IsDesignOf (texts : Texts) (design : DesignValue) : Type 0 where
-  pub records : Records
-  pub read : AreRecords texts records
-  pub joined : IsJoined records design
+  pub node : IsNodeOf nodes point number
+  pub named : name ≡ (node_value_at nodes number).name
 
 -- each node and point that the refusal names is one of the texts'
 abbrev pub Covers : Option Texts → Refusal → Type 0

@@ -1,39 +1,24 @@
 -- How a crew deals out the points, and what its seats do.
 use Rattle.std.specs.Prelude.{◌≡◌, ℕ, ◌+◌, ◌-◌, ◌*◌, ◌/◌, List, ◌++◌, length, All}
-use Rattle.std.specs.List.{range_with_len, flat_map}
 use Rattle.relax_system.specs.declared.side.Side.{Side}
 use Rattle.relax_system.specs.declared.points.Point.{Point}
 use Rattle.relax_system.specs.Sides.{IsExtremal}
-use Rattle.relax_table.specs.Seats.{TableState, SeatState, IsSeatOf, IsFront, near_numbers}
+use Rattle.relax_table.specs.Seats.{TableState, SeatState, IsSeatOf, IsFront, numbers_between, nears_between}
 use Rattle.relax_crew.specs.declared.spaced.Spaced.{Spaced}
 
 -- the first point of the seat k, where so many points are dealt out to so many seats
 abbrev pub first_point : ℕ → ℕ → ℕ → ℕ
 first_point k seats points = k * points / seats
 
--- the numbers from the one to before the other
-abbrev pub numbers_between : ℕ → ℕ → List ℕ
-numbers_between from to = range_with_len from (to - from)
-
--- the neighbours of these points, in order
-abbrev pub nears_between : List Point → ℕ → ℕ → List ℕ
-nears_between points from to = flat_map (near_numbers points) (numbers_between from to)
-
--- Each point from the one to before the other was relaxed once, in order: a look at each neighbour and one fetch.
-pub record SweepsOnce (points : List Point) (from to : ℕ) (old new : SeatState) : Type 0 where
+-- Its steps began with two sweeps over these points: the one that calls the gate, and the first one of its settling.
+pub record BeginsWithTwoSweeps (points : List Point) (from to : ℕ) (old new : SeatState) : Type 0 where
   pub parts : new.parts ≡ old.parts
-  pub looked : new.looked ≡ old.looked ++ nears_between points from to
-  pub renewed : new.renewed ≡ old.renewed ++ numbers_between from to
+  pub looked : IsFront ((old.looked ++ nears_between points from to) ++ nears_between points from to) new.looked
+  pub renewed : IsFront ((old.renewed ++ numbers_between from to) ++ numbers_between from to) new.renewed
 
--- That was done first, and then perhaps more.
-pub record BeginsWithSweep (points : List Point) (from to : ℕ) (old new : SeatState) : Type 0 where
-  pub parts : new.parts ≡ old.parts
-  pub looked : IsFront (old.looked ++ nears_between points from to) new.looked
-  pub renewed : IsFront (old.renewed ++ numbers_between from to) new.renewed
-
--- what the seat k of so many did: first of all a sweep over its own points
+-- what the seat k of so many did: first of all two sweeps over its own points
 abbrev pub IsTurn : List Point → ℕ → ℕ → SeatState → SeatState → Type 0
-IsTurn points k seats old new = BeginsWithSweep points (first_point k seats (length points)) (first_point (k + 1) seats (length points)) old new
+IsTurn points k seats old new = BeginsWithTwoSweeps points (first_point k seats (length points)) (first_point (k + 1) seats (length points)) old new
 
 -- each seat is one of the table
 abbrev pub AllSeated : {D : Type 0} → TableState → List (Spaced D) → Type 0

@@ -1,4 +1,4 @@
-use Rattle.std.proofs.Common.{◌≡◌, ◌<◌, ℕ, length, Ok, Err, refl, inl, inr}
+use Rattle.std.proofs.Common.{◌≡◌, ◌<◌, ℕ, List, length, Ok, Err, refl, sym, subst, inl, inr}
 use Rattle.std.proofs.lemmas.List.{length-map}
 use Rattle.std.proofs.lemmas.Result.{err_from_is_err_and}
 use Rattle.book_design.specs.Values.{DesignValue}
@@ -12,15 +12,60 @@ use Rattle.net_model.specs.Answers.{Answers as NetAnswers}
 use Rattle.net_model.specs.declared.fault.NetError.{NetError}
 use Rattle.net_model.specs.declared.fault.NetError.TheVariants as net_error
 use Rattle.net_model.specs.Webs.{joints_of}
+use Rattle.level_run.specs.declared.level.Level.{Level}
+use Rattle.level_run.specs.Levels.{level_at}
+use Rattle.row_space.specs.Values.{SegmentsValue}
+use Rattle.row_space.specs.Runs.{segments_of}
+use Rattle.row_legal.specs.declared.parts.Place.{Place}
+use Rattle.row_legal.specs.declared.parts.Wish.{Wish}
+use Rattle.row_legal.specs.declared.fault.LegalError.{LegalError}
+use Rattle.row_legal.specs.declared.fault.LegalError.TheVariants as legal_error
+use Rattle.row_legal.specs.Cells.{CellsValue, cells_of}
+use Rattle.row_legal.specs.Ranges.{AreGoodCells}
+use Rattle.row_legal.specs.Places.{IsLegalised}
+use Rattle.row_legal.specs.Answers.{IsRefusal as IsRoomless}
+use Rattle.row_legal.specs.Legal.{IsLegal}
+use Rattle.row_legal.specs.Spots.{spots_of, AreSitesOf}
+use Rattle.proud_top.specs.declared.place.Placed.{Placed}
+use Rattle.proud_top.specs.Solve.{AreSolved}
+use Rattle.proud_top.specs.Wishes.{AreWishes, AreCells}
+use Rattle.proud_top.specs.Placement.{placement_of}
+use Rattle.proud_top.specs.Report.{IsReportOf}
 use Rattle.proud_top.specs.declared.stop.Stop.{Stop}
 use Rattle.proud_top.specs.declared.stop.Stop.TheVariants.{ReadFault, Refused, Memory}
 use Rattle.proud_top.specs.Forms.Inputs.{Texts}
-use Rattle.proud_top.specs.Forms.Stops.{stop_of_net, stop_of_reach, Designs, Places}
-use Rattle.proud_top.proofs.Points.{last_over}
+use Rattle.proud_top.specs.Forms.Stops.{stop_of_net, stop_of_reach, stop_of_legal, Designs, Places}
+use Rattle.proud_top.proofs.Points.{over_cells}
 use Rattle.proud_top.proofs.place.place.Goals as goal
 
-pub report_text-requires : goal.report_text-requires
-report_text-requires g c = rw c.nodes.ensures.nodes (last_over c.in_ok-design.design c.in_ok-network.network c.args.count _ c.in_ok-network.ensures c.in_ok-levels.ensures.levels_are)
+-- the last level is over the cells
+pub point_cells-requires : goal.point_cells-requires
+point_cells-requires g c = over_cells c.in_ok-design.design c.in_ok-network.network c.args.count _ c.in_ok-network.ensures c.in_ok-levels.ensures.over
+
+-- the cells as they are passed
+cells_as : (design : DesignValue) (level : Level) (sites given_sites : List ℕ) (wishes given_wishes : List Wish) → given_sites ≡ sites → given_wishes ≡ wishes → AreSitesOf design sites → AreWishes design level wishes
+    → AreCells design level (cells_of given_sites given_wishes)
+cells_as design level sites given_sites wishes given_wishes e f are wished =
+    let P : List ℕ → Type 0 = λ list. AreSitesOf design list in
+    let Q : List Wish → Type 0 = λ list. AreWishes design level list in
+    record { sites = subst P (sym e) are; wishes = subst Q (sym f) wished }
+
+good_as : (sites given_sites : List ℕ) (wishes given_wishes : List Wish) → given_sites ≡ sites → given_wishes ≡ wishes → AreGoodCells (cells_of sites wishes) → AreGoodCells (cells_of given_sites given_wishes)
+good_as sites given_sites wishes given_wishes e f good =
+    let P : List ℕ → Type 0 = λ list. AreGoodCells (cells_of list wishes) in
+    let Q : List Wish → Type 0 = λ list. AreGoodCells (cells_of given_sites list) in
+    subst Q (sym f) (subst P (sym e) good)
+
+pub legalise-requires-clause-cells : goal.legalise-requires-clause-cells
+legalise-requires-clause-cells g c = good_as _ c.deref.result.now _ c.deref-2.result.now c.deref.ensures.value c.deref-2.ensures.value c.in_ok-cells.ensures.good
+
+pub placement_text-requires-clause-placed : goal.placement_text-requires-clause-placed
+placement_text-requires-clause-placed g c = record {
+  cells = cells_of c.deref.result.now c.deref-2.result.now;
+  spaced = c.in_ok-segments.ensures.segments;
+  sites = (cells_as c.in_ok-design.design _ _ c.deref.result.now _ c.deref-2.result.now c.deref.ensures.value c.deref-2.ensures.value c.in_ok-cells.ensures.sites c.in_ok-cells.ensures.wishes).sites;
+  legalised = c.in_ok-sites.ensures.answer;
+}
 
 -- the join of the texts stopped the flow
 design_stops : (count : ℕ) (texts : Texts) (stop : Stop) → Designs texts (Err stop) → Places count texts (Err stop)
@@ -63,17 +108,69 @@ returns-in_err-reach g c =
 chained : (network : NetworkValue) → ((p : ℕ) → p < length (joints_of network) → HasChain (joints_of network) p) → (p : ℕ) → p < length network.points → HasChain (joints_of network) p
 chained network h p there = h p (rw length-map there)
 
-pub returns : goal.returns
-returns g c = (
-  c.in_ok-design.ensures.0,
-  c.in_ok-design.ensures.1,
-  (
-    c.in_ok-design.design,
-    c.in_ok-design.ensures.2,
-    (
-      c.in_ok-network.network,
-      c.in_ok-network.ensures,
-      (tt, chained c.in_ok-network.network c.in_ok-reach.ensures.chains, (c.in_ok-levels.levels, c.in_ok-levels.ensures, rw c.nodes.ensures.nodes at c.in_ok-report.ensures)),
-    ),
-  ),
+-- the greedy rule did, where there was no room
+legal_stops : (count : ℕ) (texts : Texts) (design : DesignValue) (network : NetworkValue) (levels : List Level) (rows : SegmentsValue) (cells : CellsValue) (error : LegalError) → Designs texts (Ok design) → IsNetwork design network
+    → ((p : ℕ) → p < length network.points → HasChain (joints_of network) p) → AreSolved network count levels → rows ≡ segments_of design → AreCells design (level_at levels count) cells
+    → IsRoomless rows cells error → Places count texts (Err (stop_of_legal error))
+legal_stops count texts design network levels rows cells (legal_error.NoRoom cell sites largest) h made chains solved spaced are stuck =
+    inr (h.0, h.1, inr (design, h.2, inr (network, made, inr (tt, chains, inr (levels, solved, inr (rows, spaced, inr (cells, are, inl (cell, sites, largest, refl, stuck))))))))
+legal_stops count texts design network levels rows cells legal_error.Memory h made chains solved spaced are stuck = tt
+
+pub returns-in_err-sites : goal.returns-in_err-sites
+returns-in_err-sites g c =
+    let error = c.in_err-sites.field-0.0 in
+    let cells = cells_of c.deref.result.now c.deref-2.result.now in
+    let are = cells_as c.in_ok-design.design _ _ c.deref.result.now _ c.deref-2.result.now c.deref.ensures.value c.deref-2.ensures.value c.in_ok-cells.ensures.sites c.in_ok-cells.ensures.wishes in
+    let p = err_from_is_err_and c.from_residual-in_err-sites.result c.from_residual-in_err-sites.ensures.1 in
+    let q : p.0 ≡ stop_of_legal error = p.2 in
+    rw (p.1, q) (legal_stops c.args.count _ c.in_ok-design.design c.in_ok-network.network c.in_ok-levels.levels c.in_ok-segments.segments cells error c.in_ok-design.ensures c.in_ok-network.ensures
+    (chained c.in_ok-network.network c.in_ok-reach.ensures.chains) c.in_ok-levels.ensures.solved c.in_ok-segments.ensures.segments are c.in_err-sites.ensures.answer)
+
+-- or memory was wanting
+pub returns-in_err-levels : goal.returns-in_err-levels
+returns-in_err-levels g c =
+    let p = err_from_is_err_and c.from_residual-in_err-levels.result c.from_residual-in_err-levels.ensures.1 in
+    let q : p.0 ≡ Memory = p.2 in
+    rw (p.1, q) tt
+
+pub returns-in_err-segments : goal.returns-in_err-segments
+returns-in_err-segments g c =
+    let p = err_from_is_err_and c.from_residual-in_err-segments.result c.from_residual-in_err-segments.ensures.1 in
+    let q : p.0 ≡ Memory = p.2 in
+    rw (p.1, q) tt
+
+pub returns-in_err-cells : goal.returns-in_err-cells
+returns-in_err-cells g c =
+    let p = err_from_is_err_and c.from_residual-in_err-cells.result c.from_residual-in_err-cells.ensures.1 in
+    let q : p.0 ≡ Memory = p.2 in
+    rw (p.1, q) tt
+
+pub returns-in_err-file : goal.returns-in_err-file
+returns-in_err-file g c =
+    let p = err_from_is_err_and c.from_residual-in_err-file.result c.from_residual-in_err-file.ensures.1 in
+    let q : p.0 ≡ Memory = p.2 in
+    rw (p.1, q) tt
+
+pub returns-in_err-report : goal.returns-in_err-report
+returns-in_err-report g c =
+    let p = err_from_is_err_and c.from_residual-in_err-report.result c.from_residual-in_err-report.ensures.1 in
+    let q : p.0 ≡ Memory = p.2 in
+    rw (p.1, q) tt
+
+-- what is placed
+placed_whole : (count : ℕ) (texts : Texts) (design : DesignValue) (network : NetworkValue) (levels : List Level) (rows : SegmentsValue) (cells : CellsValue) (places : List Place) (placed : Placed) → Designs texts (Ok design)
+    → IsNetwork design network → ((p : ℕ) → p < length network.points → HasChain (joints_of network) p) → AreSolved network count levels → rows ≡ segments_of design → AreCells design (level_at levels count) cells
+    → IsLegalised rows cells places → placed.file.items ≡ placement_of design (spots_of rows places) → IsLegal design (spots_of rows places) → IsReportOf design count levels placed.report.items
+    → Places count texts (Ok placed)
+placed_whole count texts design network levels rows cells places placed h made chains solved spaced are legalised file legal report = (
+  (h.0, h.1, (design, h.2, (network, made, (tt, chains, (levels, solved, (rows, spaced, (cells, are, (places, legalised, (placed.file.items, file, (refl, report)))))))))),
+  record { records = h.0; design = design; spots = spots_of rows places; read = h.1; joined = h.2; legal = legal; is_text = file },
 )
+
+pub returns : goal.returns
+returns g c =
+    let cells = cells_of c.deref.result.now c.deref-2.result.now in
+    let are = cells_as c.in_ok-design.design _ _ c.deref.result.now _ c.deref-2.result.now c.deref.ensures.value c.deref-2.ensures.value c.in_ok-cells.ensures.sites c.in_ok-cells.ensures.wishes in
+    placed_whole c.args.count _ c.in_ok-design.design c.in_ok-network.network c.in_ok-levels.levels c.in_ok-segments.segments cells c.in_ok-sites.sites (record { file = c.in_ok-file.file; report = c.in_ok-report.report })
+    c.in_ok-design.ensures c.in_ok-network.ensures (chained c.in_ok-network.network c.in_ok-reach.ensures.chains) c.in_ok-levels.ensures.solved c.in_ok-segments.ensures.segments are c.in_ok-sites.ensures.answer
+    c.in_ok-file.ensures.text c.placement_text.ensures.legal c.in_ok-report.ensures

@@ -1,5 +1,5 @@
 use Rattle.relax_table.specs.Seats.{IsSeatOf}
-use Rattle.relax_crew.specs.Forms.Turns.{SweepsOnce}
+use Rattle.relax_table.specs.Forms.Sweep.{SweepsOnce}
 use Rattle.relax_crew.proofs.crew.first_sweep.Given as goal
 
 abbrev pub invariant-loop-i : goal.invariant-loop-i

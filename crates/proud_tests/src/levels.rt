@@ -1,0 +1,123 @@
+//! How often the regions are cut, and where the cells come to stand. All expected texts were worked out by hand.
+
+use crate::designs::{
+    Case, MIDDLE, MIDDLE_REPORT, NO_CELL, ONE_CELL, THREE_PADS, TWO_CELLS, Texts, USAGE, USUAL,
+    assert_case, case_of, placed,
+};
+use proud_top::{FileKind, Status};
+use std::test::Fail;
+
+/// The words of a run, the design in its folder, the text of its placement, and the report.
+type Run = (
+    &'static [&'static str],
+    Texts<'static>,
+    &'static [u8],
+    &'static [u8],
+);
+
+/// Two cells at the places of the first level, and of the next.
+const NEAR: &[u8] = b"UCLA pl 1.0\na 2 0 : N\nb 6 0 : N\nl 0 5 : N /FIXED\nr 10 5 : N /FIXED\n";
+
+const APART: &[u8] = b"UCLA pl 1.0\na 2 0 : N\nb 7 0 : N\nl 0 5 : N /FIXED\nr 10 5 : N /FIXED\n";
+
+/// The usual design at each level.
+const ROWS: &[u8] = b"UCLA pl 1.0\nu 6 12 : N\nv 14 24 : N\n\
+    m 14 0 : N /FIXED\ni -1 18 : N /FIXED\nq 20 30 : N /FIXED\n";
+
+const RUNS: [Run; 9] = [
+    (
+        &["proud", "--levels", "4", "a.aux"],
+        ONE_CELL,
+        MIDDLE,
+        MIDDLE_REPORT,
+    ),
+    (
+        &["proud", "--levels", "0", "a.aux"],
+        THREE_PADS,
+        b"UCLA pl 1.0\na 2 0 : N\nl 0 5 : N /FIXED\nr 10 5 : N /FIXED\nm 0 5 : N /FIXED\n",
+        b"cells 1 terminals 3 nets 3 pins 6\nlevels 0 gap 1\n",
+    ),
+    (
+        &["proud", "--levels", "0", "a.aux"],
+        TWO_CELLS,
+        NEAR,
+        b"cells 2 terminals 2 nets 3 pins 6\nlevels 0 gap 2\n",
+    ),
+    // the cells are in two halves of the core, and the gap is that of the level before
+    (
+        &["proud", "--levels", "1", "a.aux"],
+        TWO_CELLS,
+        APART,
+        b"cells 2 terminals 2 nets 3 pins 6\nlevels 1 gap 2\n",
+    ),
+    (
+        &["proud", "--levels", "01", "--seats", "7", "a.aux"],
+        TWO_CELLS,
+        APART,
+        b"cells 2 terminals 2 nets 3 pins 6\nlevels 1 gap 2\n",
+    ),
+    (
+        &["proud", "--levels", "12", "--seats", "1", "a.aux"],
+        TWO_CELLS,
+        APART,
+        b"cells 2 terminals 2 nets 3 pins 6\nlevels 12 gap 2\n",
+    ),
+    (
+        &["proud", "--levels", "0", "a.aux"],
+        USUAL,
+        ROWS,
+        b"cells 2 terminals 3 nets 3 pins 7\nlevels 0 gap 1\n",
+    ),
+    (
+        &["proud", "--levels", "1", "a.aux"],
+        USUAL,
+        ROWS,
+        b"cells 2 terminals 3 nets 3 pins 7\nlevels 1 gap 1\n",
+    ),
+    (
+        &["proud", "--levels", "2", "a.aux"],
+        NO_CELL,
+        b"UCLA pl 1.0\np 3 4 : N /FIXED\n",
+        b"cells 0 terminals 1 nets 0 pins 0\nlevels 2 gap 0\n",
+    ),
+];
+
+#[test]
+fn levels_may_be_asked_for(rt: HostRuntime) -> Result<(), Fail> {
+    for (words, texts, file, report) in RUNS {
+        let case = placed(texts, file, report);
+        assert_case(&rt, rt.alloc(), Case { words, ..case })?;
+    }
+    Ok(())
+}
+
+/// Words of another form.
+const OTHERS: [&[&str]; 10] = [
+    &["proud", "--levels", "13", "a.aux"],
+    &["proud", "--levels", "x", "a.aux"],
+    &["proud", "--levels", "-1", "a.aux"],
+    &["proud", "--levels", "4"],
+    &["proud", "a.aux", "--levels", "4"],
+    &["proud", "--levels", "4", "--levels", "4", "a.aux"],
+    &["proud", "--seats", "4", "--levels", "4", "a.aux"],
+    &["proud", "--levels", "4", "--seats", "65", "a.aux"],
+    &["proud", "--levels", "13", "--seats", "4", "a.aux"],
+    &["proud", "--levels", "4", "--seats", "4"],
+];
+
+#[test]
+fn other_words_of_levels_are_refused(rt: HostRuntime) -> Result<(), Fail> {
+    let usage = case_of(TWO_CELLS, Status::Usage, USAGE);
+    for words in OTHERS {
+        assert_case(&rt, rt.alloc(), Case { words, ..usage })?;
+    }
+    // the only word is the name of a design
+    let unread = case_of(
+        TWO_CELLS,
+        Status::ReadFault(FileKind::Aux),
+        b"proud: cannot read aux\n",
+    );
+    let words = &["proud", "--levels"];
+    assert_case(&rt, rt.alloc(), Case { words, ..unread })?;
+    Ok(())
+}

@@ -1,0 +1,20 @@
+//! Tests of the top call: whole runs on designs in memory, each with its status, its output file and its report.
+//!
+//! It stands above `proud_top`, so that who works on that needn't prove the tests each time. It has no code of its own, and no
+//! contract.
+#![tactic(auto)]
+
+#[cfg(test)]
+mod designs;
+#[cfg(test)]
+mod exit;
+#[cfg(test)]
+mod faults;
+#[cfg(test)]
+mod levels;
+#[cfg(test)]
+mod limits;
+#[cfg(test)]
+mod seats;
+#[cfg(test)]
+mod statuses;

@@ -1,0 +1,233 @@
+//! How many seats are asked for, and that they run at the same time.
+
+use crate::designs::{
+    Case, NO_CELL, ONE_CELL, TWO_CELLS, Texts, USAGE, assert_case, case_of, files_of, placed,
+    words_of,
+};
+use book_outer::{Calls, Gate, MemFolder, MemSink};
+use book_text::Memory;
+use proud_top::{FileKind, Status, proud};
+use std::alloc::Global;
+use std::process::Abort;
+use std::sync::atomic::{AtomicU64, Ordering};
+use std::test::Fail;
+
+/// Words that ask for a number of seats, and words of another form.
+const GOOD: [&[&str]; 4] = [
+    &["proud", "--seats", "1", "a.aux"],
+    &["proud", "--seats", "7", "a.aux"],
+    &["proud", "--seats", "64", "a.aux"],
+    &["proud", "--seats", "04", "a.aux"],
+];
+
+const BAD: [&[&str]; 7] = [
+    &["proud", "--seats", "0", "a.aux"],
+    &["proud", "--seats", "65", "a.aux"],
+    &["proud", "--seats", "x", "a.aux"],
+    &["proud", "--seats", "4"],
+    &["proud", "a.aux", "--seats", "4"],
+    &["proud", "-seats", "4", "a.aux"],
+    &["proud", "--seats", "4", "--seats", "4", "a.aux"],
+];
+
+#[test]
+fn seats_may_be_asked_for(rt: HostRuntime) -> Result<(), Fail> {
+    let file: &'static [u8] =
+        b"UCLA pl 1.0\na 2 0 : N\nb 7 0 : N\nl 0 5 : N /FIXED\nr 10 5 : N /FIXED\n";
+    let report: &'static [u8] = b"cells 2 terminals 2 nets 3 pins 6\nlevels 4 gap 2\n";
+    let done = placed(TWO_CELLS, file, report);
+    for words in GOOD {
+        assert_case(&rt, rt.alloc(), Case { words, ..done })?;
+    }
+    let usage = case_of(TWO_CELLS, Status::Usage, USAGE);
+    for words in BAD {
+        assert_case(&rt, rt.alloc(), Case { words, ..usage })?;
+    }
+    // The only word is the name of a design.
+    let unread = case_of(
+        TWO_CELLS,
+        Status::ReadFault(FileKind::Aux),
+        b"proud: cannot read aux\n",
+    );
+    let words = &["proud", "--seats"];
+    assert_case(&rt, rt.alloc(), Case { words, ..unread })?;
+    // Without a point no crew is needed.
+    let words = &["proud", "--seats", "2", "a.aux"];
+    let empty = placed(
+        NO_CELL,
+        b"UCLA pl 1.0\np 3 4 : N /FIXED\n",
+        b"cells 0 terminals 1 nets 0 pins 0\nlevels 4 gap 0\n",
+    );
+    assert_case(&rt, rt.alloc(), Case { words, ..empty })?;
+    Ok(())
+}
+
+/// How often a seat looks for the other one.
+const TURNS: u64 = 50_000_000;
+
+/// How often a seat has passed the gate, and at how many of its passes it saw that the other one had as often.
+#[derive(Drop)]
+struct Flags {
+    passes: AtomicU64,
+    met: AtomicU64,
+}
+
+impl Flags {
+    fn new() -> Flags {
+        Flags {
+            passes: AtomicU64::new(0),
+            met: AtomicU64::new(0),
+        }
+    }
+
+    /// At each pass it looks for the other seat, for so many turns at most.
+    fn pass(&self, other: &Flags) {
+        let before = self.passes.fetch_add(1, Ordering::SeqCst);
+        if (0..TURNS).any(|_| other.passes.load(Ordering::SeqCst) > before) {
+            self.met.fetch_add(1, Ordering::SeqCst);
+        }
+    }
+
+    /// It has passed once in each of so many solves, and met the other one each time.
+    fn has_met(&self, solves: u64) -> bool {
+        self.passes.load(Ordering::SeqCst) == solves && self.met.load(Ordering::SeqCst) == solves
+    }
+}
+
+/// Holds each of two seats after the one relaxation of its first sweep until the other one has made as many.
+#[derive(Drop)]
+struct Meeting {
+    first: Flags,
+    second: Flags,
+}
+
+impl Gate for Meeting {
+    fn pass(&self, seat: usize, _point: usize) {
+        match seat {
+            0 => self.first.pass(&self.second),
+            1 => self.second.pass(&self.first),
+            _ => {}
+        }
+    }
+}
+
+/// Words that ask for two seats, and how many solves there are: from below and from above, on each axis, at each level.
+const MEETINGS: [(&[&str], u64); 2] = [
+    (&["proud", "--levels", "0", "--seats", "2", "a.aux"], 4),
+    (&["proud", "--levels", "1", "--seats", "2", "a.aux"], 8),
+];
+
+/// Each of the two seats that are asked for sees the other one inside its first sweep, in each of the solves.
+#[test]
+fn proud_meets(rt: HostRuntime) -> Result<(), Fail> {
+    let alloc = rt.alloc();
+    for (words, solves) in MEETINGS {
+        let mut folder = MemFolder::new(files_of(alloc, TWO_CELLS)?, Calls::new(alloc));
+        let mut report = MemSink::new(alloc, Calls::new(alloc));
+        let words = words_of(alloc, words)?;
+        let gate = Meeting {
+            first: Flags::new(),
+            second: Flags::new(),
+        };
+        let status = proud(&rt, alloc, &words, &mut folder, &mut report, &gate);
+        assert_eq!(rt; status, Status::Done);
+        assert!(rt; gate.first.has_met(solves));
+        assert!(rt; gate.second.has_met(solves));
+    }
+    Ok(())
+}
+
+/// Four cells in a chain between two terminals.
+fn four_cells() -> Texts<'static> {
+    Texts {
+        nodes: b"UCLA nodes 1.0\nNumNodes : 6\nNumTerminals : 2\n\
+            a 2 10\nb 2 10\nc 2 10\nd 2 10\nl 0 0 terminal\nr 0 0 terminal\n",
+        nets: b"UCLA nets 1.0\nNumNets : 5\nNumPins : 10\n\
+            NetDegree : 2\nl B\na B\nNetDegree : 2\na B\nb B\nNetDegree : 2\nb B\nc B\n\
+            NetDegree : 2\nc B\nd B\nNetDegree : 2\nd B\nr B\n",
+        pl: b"UCLA pl 1.0\nl 0 5 : N /FIXED\nr 10 5 : N /FIXED\n",
+        ..ONE_CELL
+    }
+}
+
+/// Adds 100 and the seat's number to a word of the point at each pass.
+#[derive(Drop)]
+struct Watch {
+    words: Vec<AtomicU64>,
+}
+
+impl Watch {
+    fn over(alloc: Global, points: usize) -> Result<Watch, Memory> {
+        let mut words = Vec::new(alloc);
+        for _ in 0..points {
+            words.push(AtomicU64::new(0))?;
+        }
+        Ok(Watch { words })
+    }
+
+    /// In each of so many solves each point has been passed once, by its owner.
+    fn shows(&self, rt: &impl Abort, owners: &[u8], solves: u64) {
+        assert!(rt; self.words.len() == owners.len());
+        for i in 0..owners.len() {
+            let word = self.words[i].load(Ordering::SeqCst);
+            assert_eq!(rt; word, solves * (100 + u64::from(owners[i])));
+        }
+    }
+}
+
+impl Gate for Watch {
+    fn pass(&self, seat: usize, point: usize) {
+        if point < self.words.len() && seat < 64 {
+            self.words[point].fetch_add(100 + seat as u64, Ordering::SeqCst);
+        }
+    }
+}
+
+/// Words that ask for levels and seats, which seat owns each of the four cells, and how many solves there are.
+type Deal = (&'static [&'static str], [u8; 4], u64);
+
+const DEALS: [Deal; 7] = [
+    (&["proud", "--levels", "0", "a.aux"], [0, 1, 2, 3], 4),
+    (
+        &["proud", "--levels", "0", "--seats", "1", "a.aux"],
+        [0, 0, 0, 0],
+        4,
+    ),
+    (
+        &["proud", "--levels", "0", "--seats", "3", "a.aux"],
+        [0, 1, 2, 2],
+        4,
+    ),
+    (
+        &["proud", "--levels", "0", "--seats", "7", "a.aux"],
+        [1, 3, 5, 6],
+        4,
+    ),
+    (
+        &["proud", "--levels", "0", "--seats", "64", "a.aux"],
+        [15, 31, 47, 63],
+        4,
+    ),
+    (&["proud", "--levels", "1", "a.aux"], [0, 1, 2, 3], 8),
+    (
+        &["proud", "--levels", "1", "--seats", "3", "a.aux"],
+        [0, 1, 2, 2],
+        8,
+    ),
+];
+
+/// The seats that the words ask for pass the four cells, each its own range.
+#[test]
+fn as_many_seats_work_as_are_asked_for(rt: HostRuntime) -> Result<(), Fail> {
+    let alloc = rt.alloc();
+    for (words, owners, solves) in DEALS {
+        let mut folder = MemFolder::new(files_of(alloc, four_cells())?, Calls::new(alloc));
+        let mut report = MemSink::new(alloc, Calls::new(alloc));
+        let gate = Watch::over(alloc, 4)?;
+        let words = words_of(alloc, words)?;
+        let status = proud(&rt, alloc, &words, &mut folder, &mut report, &gate);
+        assert_eq!(rt; status, Status::Done);
+        gate.shows(&rt, &owners, solves);
+    }
+    Ok(())
+}

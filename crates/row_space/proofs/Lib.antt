@@ -1,0 +1,8 @@
+mod Running
+mod Spans
+mod Meeting
+mod Tiering
+mod Marking
+mod Sweeping
+mod Clearing
+mod Bounding

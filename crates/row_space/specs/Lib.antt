@@ -1,0 +1,6 @@
+pub mod Values
+pub mod Rectangles
+pub mod Runs
+pub mod Clear
+pub mod Ends
+pub mod Forms

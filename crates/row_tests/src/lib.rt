@@ -1,0 +1,10 @@
+//! Tests of the rows, on designs that are joined from their texts.
+//!
+//! It stands above `row_space` and `row_legal`, so that who works on these needn't prove the tests each time. It has no
+//! code of its own, and no contract.
+#![tactic(auto)]
+
+#[cfg(test)]
+mod legal;
+#[cfg(test)]
+mod segments;

@@ -1,0 +1,4 @@
+UCLA pl 1.0
+a 4 0 : N
+l 0 5 : N /FIXED
+r 10 5 : N /FIXED
