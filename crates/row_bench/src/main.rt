@@ -149,11 +149,13 @@ fn tell_places(rt: &HostRuntime, placed: &Placed) -> io::Result<()> {
             println!(rt; "places {count} segment {segment} site {site}")?;
             tell_text(rt, &placed.text)
         }
-        Err(LegalError::NoRoom {
-            cell,
-            sites,
-            largest,
-        }) => println!(rt; "no room cell {cell} sites {sites} largest {largest}"),
+        Err(
+            LegalError::NoRoom {
+                cell,
+                sites,
+                largest,
+            },
+        ) => println!(rt; "no room cell {cell} sites {sites} largest {largest}"),
         Err(LegalError::Memory) => println!(rt; "{NO_MEMORY}"),
     }
 }

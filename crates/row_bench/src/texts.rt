@@ -97,7 +97,9 @@ fn rows_text(alloc: Global, sizes: &Sizes, core: &Core) -> Result<String, AllocE
     for subrow in 0..sizes.subrows {
         if subrow % 4 == 0 {
             let y = u64::from(subrow / 4) * 10;
-            text.push_str(&format!(in alloc; "CoreRow Horizontal\nCoordinate : {y}\nHeight : 10\n")?)?;
+            text.push_str(&format!(in alloc;
+                "CoreRow Horizontal\nCoordinate : {y}\nHeight : 10\n"
+            )?)?;
             text.push_str("Sitewidth : 1\nSitespacing : 1\n")?;
         }
         let x = sites.saturating_mul(u64::from(subrow % 4));
@@ -122,8 +124,7 @@ fn add_block(
     let y = numbers.below(core.height());
     made.nodes
         .push_str(&format!(in alloc; "b{i} {width} {height} terminal\n")?)?;
-    made.pl
-        .push_str(&format!(in alloc; "b{i} {x} {y} : N\n")?)?;
+    made.pl.push_str(&format!(in alloc; "b{i} {x} {y} : N\n")?)?;
     Ok(())
 }
 
