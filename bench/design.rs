@@ -7,11 +7,11 @@ use std::path::{Path, PathBuf};
 
 /// The texts of a design, but for its aux file.
 pub struct Texts {
-    nodes: Vec<u8>,
-    nets: Vec<u8>,
-    wts: Option<Vec<u8>>,
-    pl: Vec<u8>,
-    scl: Vec<u8>,
+    pub nodes: Vec<u8>,
+    pub nets: Vec<u8>,
+    pub wts: Option<Vec<u8>>,
+    pub pl: Vec<u8>,
+    pub scl: Vec<u8>,
 }
 
 pub struct Node<'a> {

@@ -1,9 +1,11 @@
-//! The segments and the places of cells alone, by hand in plain Rust: what the proved ones are measured against.
+//! The rows of a design, by hand in plain Rust: what the proved ones are measured against.
 //!
-//! `rows [CELLS SUBROWS BLOCKS]`, by default 2000 20 10, makes a design, its segments, and the places of its cells by the greedy
-//! rule. Standard error gets the microseconds of both; standard output how many segments there are and the sums of their x, y
-//! and sites, and how many places and the sums of their segments' numbers and of their sites; or for which cell there was no
-//! room.
+//! `rows [CELLS SUBROWS BLOCKS]`, by default 2000 20 10, makes the texts of a design, and of these the design, its segments, the
+//! places of its cells by the greedy rule, and the text of the placement. Standard error gets the microseconds of the segments,
+//! of the places, and of all from the texts to the text; standard output how many segments there are and the sums of their x, y
+//! and sites, how many places and the sums of their segments' numbers and of their sites, and how many bytes the text has and
+//! their sum, which is taken 31 times mod 2^64 before each byte is added; or, in place of the last two, for which cell there was
+//! no room.
 //!
 //! All numbers of the design are whole units. It has SUBROWS subrows of S = floor(21 CELLS / (4 SUBROWS)) sites, 1 wide and 10
 //! high: subrow k begins at x (k mod 4) S and y 10 floor(k / 4). So the core is 4 S wide, and as high as its R = ceil(SUBROWS / 4)
@@ -13,18 +15,26 @@
 //! come the cells: each is 1 + r mod 8 wide and 10 high, and then its wish is drawn. Wishes lie in 256 heaps, as those of cells
 //! from the mids of regions do: with the core W by H millionths, cell i wishes x (i mod 16) floor(W / 16) + r mod floor(W / 64),
 //! and y (floor(i / 16) mod 16) floor(H / 16) + r mod floor(H / 64), in millionths.
+//!
+//! In the texts a block is called b and a cell c, with its number from 0 behind it. Blocks are terminals, the places of cells
+//! are 0, and there are no nets.
 
 #[allow(dead_code)]
 mod design;
 mod legalise;
+#[allow(dead_code)]
+mod network;
+#[allow(dead_code)]
+mod placement;
 mod readers;
 mod segments;
 
-use design::{Design, Node, Subrow};
+use design::{Design, Texts, join};
 use legalise::{NoRoom, Place, Wish, legalise};
-use readers::Orient;
+use placement::placement_text;
 use segments::{Segment, segments};
 use std::env;
+use std::fmt::Write as _;
 use std::time::Instant;
 
 const UNIT: i64 = 1_000_000;
@@ -60,62 +70,103 @@ impl Core {
     }
 }
 
-fn node(width: i64, height: i64, x: i64, y: i64, fixed: bool) -> Node<'static> {
-    Node {
-        name: b"",
-        width: width * UNIT,
-        height: height * UNIT,
-        x: x * UNIT,
-        y: y * UNIT,
-        orient: Orient::N,
-        fixed,
+/// The texts of the nodes and of their places, and what the cells wish.
+struct Made {
+    nodes: String,
+    pl: String,
+    wishes: Vec<Wish>,
+}
+
+impl Made {
+    fn add_block(&mut self, core: &Core, number: i64, numbers: &mut Numbers) {
+        let (width, height) = (8 + numbers.below(16), 10 + numbers.below(30));
+        let (x, y) = (numbers.below(core.width()), numbers.below(core.height()));
+        writeln!(self.nodes, "b{number} {width} {height} terminal").expect("room");
+        writeln!(self.pl, "b{number} {x} {y} : N").expect("room");
+    }
+
+    fn add_cell(&mut self, core: &Core, number: i64, numbers: &mut Numbers) {
+        let width = 1 + numbers.below(8);
+        let mut at = |heap: i64, side: i64| heap * (side / 16) + numbers.below(side / 64);
+        let x = at(number % 16, core.width() * UNIT);
+        let y = at(number / 16 % 16, core.height() * UNIT);
+        self.wishes.push(Wish { x, y });
+        writeln!(self.nodes, "c{number} {width} 10").expect("room");
+        writeln!(self.pl, "c{number} 0 0 : N").expect("room");
     }
 }
 
-fn block(core: &Core, numbers: &mut Numbers) -> Node<'static> {
-    let (width, height) = (8 + numbers.below(16), 10 + numbers.below(30));
-    let (x, y) = (numbers.below(core.width()), numbers.below(core.height()));
-    node(width, height, x, y, true)
-}
-
-/// A cell's sites, and its wish.
-fn cell(core: &Core, number: i64, numbers: &mut Numbers) -> (u64, Wish) {
-    let sites = 1 + numbers.below(8) as u64;
-    let mut at = |heap: i64, side: i64| heap * (side / 16) + numbers.below(side / 64);
-    let x = at(number % 16, core.width() * UNIT);
-    let y = at(number / 16 % 16, core.height() * UNIT);
-    (sites, Wish { x, y })
-}
-
-/// The design, with the blocks before the cells, and what the cells take and wish.
-fn made(cells: i64, subrows: i64, blocks: i64) -> (Design<'static>, Vec<u64>, Vec<Wish>) {
+/// The texts of the design, with the blocks before the cells, and what the cells wish.
+fn made(cells: i64, subrows: i64, blocks: i64) -> (Texts, Vec<Wish>) {
     let core = Core {
         sites: 21 * cells / (4 * subrows),
         rows: (subrows + 3) / 4,
     };
+    let count = cells + blocks;
+    let mut made = Made {
+        nodes: format!("UCLA nodes 1.0\nNumNodes : {count}\nNumTerminals : {blocks}\n"),
+        pl: "UCLA pl 1.0\n".to_string(),
+        wishes: Vec::new(),
+    };
     let mut numbers = Numbers { state: 1 };
-    let mut nodes: Vec<Node> = (0..blocks).map(|_| block(&core, &mut numbers)).collect();
-    let (sites, wishes): (Vec<u64>, Vec<Wish>) =
-        (0..cells).map(|i| cell(&core, i, &mut numbers)).unzip();
-    nodes.extend(
-        sites
-            .iter()
-            .map(|sites| node(*sites as i64, 10, 0, 0, false)),
-    );
-    let subrow = |k: i64| Subrow {
-        x: k % 4 * core.sites * UNIT,
-        y: 10 * (k / 4) * UNIT,
-        sites: core.sites as u32,
+    (0..blocks).for_each(|i| made.add_block(&core, i, &mut numbers));
+    (0..cells).for_each(|i| made.add_cell(&core, i, &mut numbers));
+    let texts = Texts {
+        nodes: made.nodes.into_bytes(),
+        nets: b"UCLA nets 1.0\nNumNets : 0\nNumPins : 0\n".to_vec(),
+        wts: None,
+        pl: made.pl.into_bytes(),
+        scl: rows_text(&core, subrows).into_bytes(),
     };
-    let design = Design {
-        nodes,
-        nets: Vec::new(),
-        core: [(0, core.width() * UNIT), (0, core.height() * UNIT)],
-        subrows: (0..subrows).map(subrow).collect(),
-        row_height: 10 * UNIT,
-        pitch: UNIT,
-    };
-    (design, sites, wishes)
+    (texts, made.wishes)
+}
+
+/// The rows: up to four subrows side by side in each.
+fn rows_text(core: &Core, subrows: i64) -> String {
+    let Core { sites, rows } = core;
+    let mut text = format!("UCLA scl 1.0\nNumRows : {rows}\n");
+    for row in 0..*rows {
+        let y = 10 * row;
+        write!(
+            text,
+            "CoreRow Horizontal\nCoordinate : {y}\nHeight : 10\nSitewidth : 1\nSitespacing : 1\n"
+        )
+        .expect("room");
+        for k in 0..(subrows - 4 * row).min(4) {
+            let x = k * sites;
+            writeln!(text, "SubrowOrigin : {x} NumSites : {sites}").expect("room");
+        }
+        text.push_str("End\n");
+    }
+    text
+}
+
+/// How many sites each cell takes.
+fn sites_of(design: &Design) -> Vec<u64> {
+    let cells = design.nodes.iter().filter(|node| !node.fixed);
+    cells
+        .map(|cell| (cell.width as u64).div_ceil(design.pitch as u64).max(1))
+        .collect()
+}
+
+/// What was made of the texts.
+struct Placed {
+    segments: Vec<Segment>,
+    places: Result<(Vec<Place>, Vec<u8>), NoRoom>,
+}
+
+fn placed(texts: &Texts, wishes: &[Wish]) -> Placed {
+    let design = join(texts);
+    let segments = timed("segments", || segments(&design));
+    let sites = sites_of(&design);
+    let places = timed("legalise", || {
+        legalise(&segments, design.pitch, &sites, wishes)
+    });
+    let places = places.map(|places| {
+        let text = placement_text(&design, &segments, &places);
+        (places, text)
+    });
+    Placed { segments, places }
 }
 
 fn timed<T>(name: &str, work: impl FnOnce() -> T) -> T {
@@ -135,12 +186,16 @@ fn tell_segments(segments: &[Segment]) {
     println!("segments {} x {x} y {y} sites {sites}", segments.len());
 }
 
-fn tell_places(places: &Result<Vec<Place>, NoRoom>) {
+fn tell_places(places: &Result<(Vec<Place>, Vec<u8>), NoRoom>) {
     match places {
-        Ok(places) => {
+        Ok((places, text)) => {
             let segment: u64 = places.iter().map(|place| u64::from(place.segment)).sum();
             let site: u64 = places.iter().map(|place| u64::from(place.site)).sum();
             println!("places {} segment {segment} site {site}", places.len());
+            let sum = text.iter().fold(0u64, |sum, byte| {
+                sum.wrapping_mul(31).wrapping_add(u64::from(*byte))
+            });
+            println!("text {} sum {sum}", text.len());
         }
         Err(fault) => {
             let NoRoom {
@@ -159,11 +214,8 @@ fn main() {
         [cells, subrows, blocks] => (cells, subrows, blocks),
         _ => (2000, 20, 10),
     };
-    let (design, sites, wishes) = made(cells, subrows, blocks);
-    let segments = timed("segments", || segments(&design));
-    let places = timed("legalise", || {
-        legalise(&segments, design.pitch, &sites, &wishes)
-    });
-    tell_segments(&segments);
-    tell_places(&places);
+    let (texts, wishes) = made(cells, subrows, blocks);
+    let placed = timed("reading to placement", || placed(&texts, &wishes));
+    tell_segments(&placed.segments);
+    tell_places(&placed.places);
 }

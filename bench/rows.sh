@@ -1,8 +1,8 @@
 #!/usr/bin/env bash
-# Times the segments and the places of cells alone three times as they are proved and three times by hand, in turn, compares
-# what they made, and prints the medians in microseconds and their ratios. Where the proved ones aren't built, those by hand are
-# timed alone. Usage: bench/rows.sh [CELLS SUBROWS BLOCKS], by default 50,000, 200,000 and 800,000 cells, with a subrow for
-# each 100 and a fixed block for each 200 of them.
+# Times the segments and the places of cells alone, and all from a design's texts to the text of its placement, three times as
+# they are proved and three times by hand, in turn, compares what they made, and prints the medians in microseconds and their
+# ratios. Where the proved ones aren't built, those by hand are timed alone. Usage: bench/rows.sh [CELLS SUBROWS BLOCKS], by
+# default 50,000, 200,000 and 800,000 cells, with a subrow for each 100 and a fixed block for each 200 of them.
 set -eu
 bench=$(cd "$(dirname "$0")" && pwd)
 work=$(mktemp -d)
@@ -13,7 +13,7 @@ proved=$bench/../crates/row_bench/out/row_bench
 
 names=by_hand
 [ ! -x "$work/proved" ] || names="by_hand proved"
-median() { awk -v what="$2" '$1 == what { print $2 }' "$work/$1.times" | sort -n | sed -n 2p; }
+median() { sed -n "s/^$2 \([0-9]*\) us\$/\1/p" "$work/$1.times" | sort -n | sed -n 2p; }
 compare() {
     local name what a b
     rm -f "$work"/*.times
@@ -24,7 +24,7 @@ compare() {
         done
     done
     echo "$1 cells, $2 subrows, $3 blocks"
-    for what in segments legalise; do
+    for what in segments legalise 'reading to placement'; do
         b=$(median by_hand "$what")
         if [ -x "$work/proved" ]; then
             a=$(median proved "$what")

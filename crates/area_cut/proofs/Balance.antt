@@ -12,7 +12,7 @@ use Rattle.area_cut.specs.Cut.{area_of, in_first, first_points, second_points}
 use Rattle.area_cut.specs.Order.{IsInOrder, IsShortestFront, AreBalanced}
 use Rattle.area_cut.specs.Forms.Placed.{IsFirstCount}
 use Rattle.area_cut.proofs.Counts.{at_place, first_area}
-use Rattle.area_cut.proofs.Sorts.{in_order, find_count, ascending_pairs}
+use Rattle.area_cut.proofs.Sorts.{front_is_there}
 
 balance_of : (areas mids points order : List ℕ) (n most : ℕ) → IsInOrder mids points order → IsFirstCount areas order (area_of areas points) n → All (λ p. slice_index areas p ≤ most) points → AreBalanced areas mids points most
 balance_of areas mids points order n most ordered count small = record {
@@ -69,13 +69,6 @@ balance_of areas mids points order n most ordered count small = record {
       let front = first in
       omega arith
 
-pub parts_are_balanced : (areas mids points : List ℕ) (most : ℕ) → IsStrictlyIncreasing points → 2 ≤ length points → All (λ p. slice_index areas p ≤ most) points → AreBalanced areas mids points most
-parts_are_balanced areas mids points most ascending some small =
-    let order = in_order mids points (ascending_pairs points ascending) in
-    let long = length_permutation points order.0 order.1.same in
-    let count = find_count areas order.0 (area_of areas points) (length order.0) 1 (omega arith) (omega arith) (λ m one below. absurd (omega arith)) (omega arith) in
-    balance_of areas mids points order.0 count.0 most order.1 count.1 small
-
 -- ---- the first part is the shortest front, and all but the last point where that is all of them
 
 count_of_front : (areas mids points order : List ℕ) (n : ℕ) → IsInOrder mids points order → 2 ≤ length points → IsShortestFront areas order n → IsFirstCount areas order (area_of areas points) (min n (length order - 1))
@@ -121,3 +114,12 @@ front_is_first areas mids points order n p ordered many front among = (to, from)
       let inside : j < length order = omega arith in
       let is : get_or order j 0 ≡ p = get_or_default order j 0 p inside ∙ sym (get_or-take (min n (length order - 1)) order j p before) ∙ at.2 in
       sym (ap (in_first areas mids points) is) ∙ at_place areas mids points order (min n (length order - 1)) j ordered count inside ∙ lt-ltb j (min n (length order - 1)) before
+
+-- ---- the balance of any points
+
+pub parts_are_balanced : (areas mids points : List ℕ) (most : ℕ) → IsStrictlyIncreasing points → 2 ≤ length points → All (λ p. slice_index areas p ≤ most) points → AreBalanced areas mids points most
+parts_are_balanced areas mids points most ascending some small =
+    let found = front_is_there areas mids points ascending (omega arith) in
+    let order = found.0 in
+    let n = found.1.0 in
+    balance_of areas mids points order (min n (length order - 1)) most found.1.1.0 (count_of_front areas mids points order n found.1.1.0 some found.1.1.1) small

@@ -1,16 +1,16 @@
--- Points can be put in order, and the order has a first part.
-use Rattle.std.proofs.Common.{◌≡◌, ◌≢◌, ◌⊎◌, ℕ, zero, suc, ◌+◌, ◌*◌, ◌<◌, ◌≤◌, Bool, true, false, cond, List, [], ◌∷◌, length, take, refl, subst, inl, inr, arith}
+-- Points can be put in order, and the order has a shortest front.
+use Rattle.std.proofs.Common.{◌≡◌, ◌≢◌, ◌⊎◌, ℕ, zero, suc, ◌+◌, ◌*◌, ◌<◌, ◌≤◌, Bool, true, false, cond, List, [], ◌∷◌, length, take, refl, ap, subst, inl, inr, arith}
 use Rattle.std.specs.Prelude.{All}
 use Rattle.std.specs.List.{AllPairs}
 use Rattle.std.specs.List.Sorted.{IsPermutation, IsStrictlyIncreasing}
 use Rattle.std.proofs.lemmas.Bool.{cases_lt}
 use Rattle.std.proofs.lemmas.Bool.Decides.{nat_tests}
+use Rattle.std.proofs.lemmas.List.{take_all}
 use Rattle.std.proofs.lemmas.List.Elements.{All-cons, All-tail, All-head, All-weaker}
 use Rattle.std.proofs.lemmas.List.Kept.{AllPairs-cons, AllPairs-from_increasing}
-use Rattle.std.proofs.lemmas.List.Sorted.{IsPermutation-refl, IsPermutation-sym, IsPermutation-trans, IsPermutation-cons, IsPermutation-middle, All-permutation}
+use Rattle.std.proofs.lemmas.List.Sorted.{IsPermutation-refl, IsPermutation-sym, IsPermutation-trans, IsPermutation-cons, IsPermutation-middle, All-permutation, length_permutation}
 use Rattle.area_cut.specs.Cut.{area_of, precedes}
-use Rattle.area_cut.specs.Order.{IsInOrder}
-use Rattle.area_cut.specs.Forms.Placed.{IsFirstCount}
+use Rattle.area_cut.specs.Order.{IsInOrder, IsShortestFront}
 
 abbrev Before : List ℕ → ℕ → ℕ → Type 0
 Before mids p q = precedes mids p q ≡ true
@@ -50,7 +50,7 @@ insert_rises mids p (q ∷ order) rises apart = by_cases (insert_rises mids p or
   by_cases rest false e =
       AllPairs-cons (Before mids) q (insert_in mids p order) (All-permutation (Before mids q) (p ∷ order) (insert_in mids p order) (insert_moves mids p order) (All-cons (Before mids q) p order (other_way mids p q e (All-head (λ r. p ≢ r) q order apart)) behind)) rest
 
-pub in_order : (mids points : List ℕ) → AllPairs (λ p q. p < q) points → (order : List ℕ) × IsInOrder mids points order
+in_order : (mids points : List ℕ) → AllPairs (λ p q. p < q) points → (order : List ℕ) × IsInOrder mids points order
 in_order mids [] h = ([], record { same = IsPermutation-refl []; rises = λ i j d l m. absurd (omega arith) })
 in_order mids (p ∷ points) h =
     let rest = in_order mids points (pairs_tail (λ p q. p < q) p points h) in
@@ -62,19 +62,26 @@ in_order mids (p ∷ points) h =
       },
     )
 
--- ---- the first part
+-- ---- the shortest front
 
-pub find_count : (areas order : List ℕ) (total fuel k : ℕ) → 1 ≤ k → k < length order → ((m : ℕ) → 1 ≤ m → m < k → 2 * area_of areas (take m order) < total) → length order ≤ k + 1 + fuel → (n : ℕ) × IsFirstCount areas order total n
-find_count areas order total zero k some short fewer near = (k, record { some = some; short = short; fewer = fewer; enough = λ room. absurd (omega arith) })
-find_count areas order total (suc fuel) k some short fewer near = by_cases (find_count areas order total fuel (k + 1)) (cases_lt (2 * area_of areas (take k order)) total) (cases_lt (k + 1) (length order)) where
-  by_cases : (1 ≤ k + 1 → k + 1 < length order → ((m : ℕ) → 1 ≤ m → m < k + 1 → 2 * area_of areas (take m order) < total) → length order ≤ k + 1 + 1 + fuel → (n : ℕ) × IsFirstCount areas order total n)
-      → (2 * area_of areas (take k order) < total) ⊎ (total ≤ 2 * area_of areas (take k order)) → (k + 1 < length order) ⊎ (length order ≤ k + 1) → (n : ℕ) × IsFirstCount areas order total n
-  by_cases again (inr enough) room = (k, record { some = some; short = short; fewer = fewer; enough = λ _. enough })
-  by_cases again (inl less) (inr full) = (k, record { some = some; short = short; fewer = fewer; enough = λ room. absurd (omega arith) })
-  by_cases again (inl less) (inl room) = again (omega arith) room (λ m one below. longer m one (cases_lt m k) below) (omega arith) where
-    longer : (m : ℕ) → 1 ≤ m → (m < k) ⊎ (k ≤ m) → m < k + 1 → 2 * area_of areas (take m order) < total
+all_enough : (areas order : List ℕ) (k : ℕ) → length order ≤ k → area_of areas order ≤ 2 * area_of areas (take k order)
+all_enough areas order k full = let whole : area_of areas (take k order) ≡ area_of areas order = ap (area_of areas) (take_all k order full) in omega arith
+
+find_front : (areas order : List ℕ) (fuel k : ℕ) → 1 ≤ k → k ≤ length order → ((m : ℕ) → 1 ≤ m → m < k → 2 * area_of areas (take m order) < area_of areas order) → length order ≤ k + fuel → (n : ℕ) × IsShortestFront areas order n
+find_front areas order zero k some within fewer near = (k, record { some = some; within = within; enough = all_enough areas order k (omega arith); shortest = fewer })
+find_front areas order (suc fuel) k some within fewer near = by_cases (find_front areas order fuel (k + 1)) (cases_lt (2 * area_of areas (take k order)) (area_of areas order)) (cases_lt k (length order)) where
+  by_cases : (1 ≤ k + 1 → k + 1 ≤ length order → ((m : ℕ) → 1 ≤ m → m < k + 1 → 2 * area_of areas (take m order) < area_of areas order) → length order ≤ k + 1 + fuel → (n : ℕ) × IsShortestFront areas order n)
+      → (2 * area_of areas (take k order) < area_of areas order) ⊎ (area_of areas order ≤ 2 * area_of areas (take k order)) → (k < length order) ⊎ (length order ≤ k) → (n : ℕ) × IsShortestFront areas order n
+  by_cases again (inr enough) room = (k, record { some = some; within = within; enough = enough; shortest = fewer })
+  by_cases again (inl less) (inr full) = (k, record { some = some; within = within; enough = all_enough areas order k full; shortest = fewer })
+  by_cases again (inl less) (inl room) = again (omega arith) (omega arith) (λ m one below. longer m one (cases_lt m k) below) (omega arith) where
+    longer : (m : ℕ) → 1 ≤ m → (m < k) ⊎ (k ≤ m) → m < k + 1 → 2 * area_of areas (take m order) < area_of areas order
     longer m one (inl before) below = fewer m one before
-    longer m one (inr at) below = let same : k ≡ m = omega arith in subst (λ (j : ℕ). 2 * area_of areas (take j order) < total) same less
+    longer m one (inr at) below = let same : k ≡ m = omega arith in subst (λ (j : ℕ). 2 * area_of areas (take j order) < area_of areas order) same less
 
-pub ascending_pairs : (points : List ℕ) → IsStrictlyIncreasing points → AllPairs (λ p q. p < q) points
-ascending_pairs points ascending = AllPairs-from_increasing points ascending
+pub front_is_there : (areas mids points : List ℕ) → IsStrictlyIncreasing points → 1 ≤ length points → (order : List ℕ) × ((n : ℕ) × (IsInOrder mids points order × IsShortestFront areas order n))
+front_is_there areas mids points ascending some =
+    let order = in_order mids points (AllPairs-from_increasing points ascending) in
+    let long = length_permutation points order.0 order.1.same in
+    let front = find_front areas order.0 (length order.0) 1 (omega arith) (omega arith) (λ m one below. absurd (omega arith)) (omega arith) in
+    (order.0, (front.0, (order.1, front.1)))

@@ -8,9 +8,12 @@ ghost use Rattle.area_cut.specs.Cut.{in_first, parts_of, cut_of};
 ghost use Rattle.area_cut.specs.Order.{IsInOrder, IsShortestFront, AreBalanced};
 
 /// The first part is the rule's: the shortest front of the points, in the order of (mid, number), that has at least one
-/// point and whose doubled area is at least the whole; and all but the last point where that front is all of them.
+/// point and whose doubled area is at least the whole; and all but the last point where that front is all of them. At least
+/// one point, all in ascending order, have such an order and such a front.
 pub fn front_is_first()
-    ensures { (areas mids points order : List ℕ) (n p : ℕ) → IsInOrder mids points order → 2 ≤ length points
+    ensures there { (areas mids points : List ℕ) → IsStrictlyIncreasing points → 1 ≤ length points
+        → (order : List ℕ) × ((n : ℕ) × (IsInOrder mids points order × IsShortestFront areas order n)) }
+    ensures first { (areas mids points order : List ℕ) (n p : ℕ) → IsInOrder mids points order → 2 ≤ length points
         → IsShortestFront areas order n → Contains points p
         → (in_first areas mids points p ≡ true) ↔ Contains (take (min n (length order - 1)) order) p }
 {}

@@ -17,6 +17,3 @@ pub use axis::Axis;
 pub use cutting::{cut, whole};
 pub use laws::{front_is_first, parts_balance, parts_lie_inside, parts_share, points_have_homes};
 pub use region::{PointList, Region, Regions};
-
-#[cfg(test)]
-mod tests;

@@ -1,7 +1,8 @@
 //! Joins of small designs, which are read from their texts.
 
 use book_design::{
-    Core, Design, DesignFault, JoinError, Net, Node, Pin, Subrow, join_design, one_join,
+    Core, Design, DesignFault, JoinError, Net, Node, Pin, Subrow, join_design, joined_nodes,
+    one_join,
 };
 use book_files::{FileKind, Orient, read_nets, read_nodes, read_pl, read_scl, read_wts};
 use std::alloc::{AllocError, Global};
@@ -265,6 +266,18 @@ fn a_design_is_joined(rt: HostRuntime) {
     assert!(rt; design.subrows() == B_SUBROWS.as_slice() && design.core() == B_CORE);
     assert!(rt; (design.pitch(), design.row_height()) == (1_000_000, 12_000_000));
     assert!(rt; are_points_named(&design));
+}
+
+#[test]
+fn nodes_are_joined_alone(rt: HostRuntime) -> Result<(), Fail> {
+    let Ok(nodes) = read_nodes(rt.alloc(), B.nodes) else {
+        panic!(rt; "the nodes of design B aren't read");
+    };
+    let Ok(pl) = read_pl(rt.alloc(), B.pl) else {
+        panic!(rt; "the places of design B aren't read");
+    };
+    assert!(rt; are_nodes(&joined_nodes(rt.alloc(), &nodes, &pl)?, &B_NODES));
+    Ok(())
 }
 
 #[test]

@@ -21,6 +21,3 @@ pub use laws::{chains_stay, first_uses_no_mids, gap_is_one, levels_are_one, leve
 pub use level::{Level, Levels, Solve};
 pub use projection::project;
 pub use spread::gap;
-
-#[cfg(test)]
-mod tests;

@@ -25,6 +25,3 @@ pub use limits::{MOST_NET_NODES, MOST_TERMS, MOST_WEIGHT, NET_WEIGHT};
 pub use making::network;
 pub use model::Network;
 pub use parts::{FixedPin, Near};
-
-#[cfg(test)]
-mod tests;

@@ -2,14 +2,14 @@
 
 ghost use Rattle.std.specs.Prelude.{◌≡◌, ◌^◌, ◌<◌, ◌≤◌, length, sum, IsTrue};
 
-use crate::{Regions, cut, parts_share, whole};
+use area_cut::{Regions, cut, parts_share, whole};
 use book_text::Memory;
 use std::alloc::Global;
 use std::process::Abort;
 use std::test::Fail;
 
 /// A region to be: its ends on x and on y, and its points.
-type Row = (u64, u64, u64, u64, &'static [u32]);
+pub(crate) type Row = (u64, u64, u64, u64, &'static [u32]);
 
 /// A cut by hand: the ends of the region of all points, areas, mids on x and on y, how often it is cut, and what comes of it.
 type Cut = (
@@ -135,7 +135,7 @@ fn is_light(areas: &[u64]) -> bool
 }
 
 /// The regions are exactly these.
-fn are(rt: &impl Abort, regions: &Regions, rows: &[Row]) {
+pub(crate) fn are(rt: &impl Abort, regions: &Regions, rows: &[Row]) {
     let regions = regions.as_slice();
     assert_eq!(rt; regions.len(), rows.len());
     for (region, (xlo, xhi, ylo, yhi, points)) in regions.iter().zip(rows) {

@@ -1,5 +1,5 @@
 use Rattle.std.proofs.Common.{◌≡◌, ◌^◌, ◌<◌, take, sum}
-use Rattle.area_cut.proofs.tests.is_light.Given as goal
+use Rattle.level_tests.proofs.cuts.is_light.Given as goal
 
 abbrev pub invariant-loop-area : goal.invariant-loop-area
 invariant-loop-area l = record {

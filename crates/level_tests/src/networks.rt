@@ -1,24 +1,10 @@
 //! Networks of small designs, which are joined from their texts.
 
-use crate::{FixedPin, Near, NetError, NetFault, Network, network};
-use book_design::{Core, Design, JoinError, join_design};
-use book_files::{read_nets, read_nodes, read_pl, read_scl, read_wts};
+use crate::designs::{Texts, made};
+use book_design::Core;
+use net_model::{FixedPin, Near, NetError, NetFault, one_network, terms_are_pairs};
 use pad_reach::{ReachError, reach};
 use std::alloc::{AllocError, Global};
-use std::process::Abort;
-
-/// The texts of a design's files.
-#[derive(Clone, Copy)]
-struct Texts<'a> {
-    nodes: &'a [u8],
-    nets: &'a [u8],
-    wts: &'a [u8],
-    pl: &'a [u8],
-    scl: &'a [u8],
-}
-
-/// More bytes than any of these texts has.
-const TOO_LONG: usize = 268_435_456;
 
 /// Two cells, a macro over two rows and pads beside the core.
 const B: Texts = Texts {
@@ -52,37 +38,10 @@ const C: Texts = Texts {
         Sitewidth : 1\nSubrowOrigin : 0 NumSites : 10\nEnd\n",
 };
 
-/// What the files of these texts make together.
-fn join<'a>(rt: &impl Abort, alloc: Global, texts: &Texts<'a>) -> Result<Design<'a>, JoinError> {
-    assert!(rt; texts.nodes.len() < TOO_LONG);
-    assert!(rt; texts.nets.len() < TOO_LONG);
-    assert!(rt; texts.scl.len() < TOO_LONG);
-    let Ok(nodes) = read_nodes(alloc, texts.nodes) else {
-        panic!(rt; "the nodes are not read");
-    };
-    let Ok(nets) = read_nets(alloc, texts.nets) else {
-        panic!(rt; "the nets are not read");
-    };
-    let Ok(wts) = read_wts(alloc, texts.wts) else {
-        panic!(rt; "the weights are not read");
-    };
-    let Ok(pl) = read_pl(alloc, texts.pl) else {
-        panic!(rt; "the places are not read");
-    };
-    let Ok(scl) = read_scl(alloc, texts.scl) else {
-        panic!(rt; "the rows are not read");
-    };
-    join_design(alloc, &nodes, &nets, Some(&wts), &pl, &scl)
-}
-
-/// The network of these texts.
-fn made(rt: &impl Abort, alloc: Global, texts: &Texts<'_>) -> Result<Network, NetError> {
-    let design = join(rt, alloc, texts).expect(rt, "the texts are joined");
-    network(alloc, &design)
-}
-
 #[test]
 fn the_network_of_a_design_is_made(rt: HostRuntime) {
+    one_network();
+    terms_are_pairs();
     let found = made(&rt, rt.alloc(), &B).expect(&rt, "design B");
     assert_eq!(rt; found.points(), 2);
     let (u, v) = (0, 1);

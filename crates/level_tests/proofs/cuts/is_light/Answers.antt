@@ -1,6 +1,6 @@
 use Rattle.std.proofs.Common.{ap, sum, arith}
 use Rattle.std.proofs.lemmas.List.{take_all}
-use Rattle.area_cut.proofs.tests.is_light.Goals as goal
+use Rattle.level_tests.proofs.cuts.is_light.Goals as goal
 
 pub returns : goal.returns
 returns c = λ _.

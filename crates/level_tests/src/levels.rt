@@ -1,0 +1,326 @@
+//! Designs whose levels were worked by hand, and one whose levels a script found that shares no code.
+
+ghost use Rattle.std.specs.Prelude.{◌≤◌, ◌<◌, length};
+
+use crate::cuts::{Row, are};
+use crate::designs::{Texts, made};
+use area_cut::whole;
+use book_outer::OpenGate;
+use level_run::{Axis, MOST_LEVELS, Options, Solve, gap, levels, project};
+use pad_reach::reach;
+use relax_crew::MOST_SEATS;
+use relax_system::{Near, System};
+use std::test::Fail;
+
+/// A row of 10 by 10 units.
+const ROW: &[u8] = b"UCLA scl 1.0\nNumRows : 1\nCoreRow Horizontal\n Coordinate : 0\n Height : 10\n\
+    Sitewidth : 1\n Sitespacing : 1\n SubrowOrigin : 0 NumSites : 10\nEnd\n";
+
+const NO_WEIGHTS: &[u8] = b"UCLA wts 1.0\n";
+
+/// A cell between two pads.
+const ONE: Texts = Texts {
+    nodes: b"UCLA nodes 1.0\nNumNodes : 3\nNumTerminals : 2\na 2 10\nl 0 0 terminal\n\
+        r 0 0 terminal\n",
+    nets: b"UCLA nets 1.0\nNumNets : 2\nNumPins : 4\nNetDegree : 2 n0\nl B\na B\n\
+        NetDegree : 2 n1\na B\nr B\n",
+    wts: NO_WEIGHTS,
+    pl: b"UCLA pl 1.0\na 0 0 : N\nl 0 5 : N /FIXED\nr 10 5 : N /FIXED\n",
+    scl: ROW,
+};
+
+/// The cell with a second pad on its left.
+const UNEVEN: Texts = Texts {
+    nodes: b"UCLA nodes 1.0\nNumNodes : 4\nNumTerminals : 3\na 2 10\nl 0 0 terminal\n\
+        r 0 0 terminal\nm 0 0 terminal\n",
+    nets: b"UCLA nets 1.0\nNumNets : 3\nNumPins : 6\nNetDegree : 2 n0\nl B\na B\n\
+        NetDegree : 2 n1\na B\nr B\nNetDegree : 2 n2\nm B\na B\n",
+    wts: NO_WEIGHTS,
+    pl: b"UCLA pl 1.0\na 0 0 : N\nl 0 5 : N /FIXED\nr 10 5 : N /FIXED\nm 0 5 : N /FIXED\n",
+    scl: ROW,
+};
+
+/// Two cells in a chain between two pads.
+const CHAIN: Texts = Texts {
+    nodes: b"UCLA nodes 1.0\nNumNodes : 4\nNumTerminals : 2\na 2 10\nb 2 10\nl 0 0 terminal\n\
+        r 0 0 terminal\n",
+    nets: b"UCLA nets 1.0\nNumNets : 3\nNumPins : 6\nNetDegree : 2 n0\nl B\na B\n\
+        NetDegree : 2 n1\na B\nb B\nNetDegree : 2 n2\nb B\nr B\n",
+    wts: NO_WEIGHTS,
+    pl: b"UCLA pl 1.0\na 0 0 : N\nb 0 0 : N\nl 0 5 : N /FIXED\nr 10 5 : N /FIXED\n",
+    scl: ROW,
+};
+
+/// Two cells in a row of 20 by 10 units, a pad to the left of it, and a block that reaches past its right end. A net of weight
+/// 3 joins the cells, one the pad, and one both cells and the block, with the block's pin at 19 and 9.5 units.
+const BLOCK: Texts = Texts {
+    nodes: b"UCLA nodes 1.0\nNumNodes : 4\nNumTerminals : 2\na 2 10\nb 2 10\nl 0 0 terminal\n\
+        r 2 4 terminal\n",
+    nets: b"UCLA nets 1.0\nNumNets : 3\nNumPins : 7\nNetDegree : 2 n0\nl B\na B\n\
+        NetDegree : 2 n1\na B\nb B\nNetDegree : 3 n2\na B\nb B\nr B : -12.0 0.5\n",
+    wts: b"UCLA wts 1.0\nn1 3\n",
+    pl: b"UCLA pl 1.0\na 0 0 : N\nb 0 0 : N\nl -3 5 : N /FIXED\nr 30 7 : N /FIXED\n",
+    scl: b"UCLA scl 1.0\nNumRows : 1\nCoreRow Horizontal\n Coordinate : 0\n Height : 10\n\
+        Sitewidth : 1\n Sitespacing : 1\n SubrowOrigin : 0 NumSites : 20\nEnd\n",
+};
+
+/// Six cells in two rows of 12 by 10 units, with a net to each cell beside, one of three cells, and four pads around.
+const MESH: Texts = Texts {
+    nodes: b"UCLA nodes 1.0\nNumNodes : 10\nNumTerminals : 4\na 1 10\nb 2 10\nc 3 10\nd 1 10\n\
+        e 2 10\nf 3 10\nl 0 0 terminal\nr 0 0 terminal\nt 0 0 terminal\ns 0 0 terminal\n",
+    nets: b"UCLA nets 1.0\nNumNets : 12\nNumPins : 25\nNetDegree : 2\na B\nb B\n\
+        NetDegree : 2\nb B\nc B\nNetDegree : 2\nd B\ne B\nNetDegree : 2\ne B\nf B\n\
+        NetDegree : 2\na B\nd B\nNetDegree : 2\nb B\ne B\nNetDegree : 2\nc B\nf B\n\
+        NetDegree : 2\nl B\na B\nNetDegree : 2\nf B\nr B\nNetDegree : 2\nd B\nt B\n\
+        NetDegree : 2\ns B\nc B\nNetDegree : 3\na B\nc B\ne B\n",
+    wts: NO_WEIGHTS,
+    pl: b"UCLA pl 1.0\nl 0 5 : N /FIXED\nr 12 15 : N /FIXED\nt 6 20 : N /FIXED\n\
+        s 9 0 : N /FIXED\n",
+    scl: b"UCLA scl 1.0\nNumRows : 2\nCoreRow Horizontal\n Coordinate : 0\n Height : 10\n\
+        Sitewidth : 1\n Sitespacing : 1\n SubrowOrigin : 0 NumSites : 12\nEnd\n\
+        CoreRow Horizontal\n Coordinate : 10\n Height : 10\n\
+        Sitewidth : 1\n Sitespacing : 1\n SubrowOrigin : 0 NumSites : 12\nEnd\n",
+};
+
+/// The least and the greatest vector of a solve, and the mids.
+type Vectors = (&'static [u64], &'static [u64], &'static [u64]);
+
+/// A design, how often it is cut, and its last level: the regions, and what is solved there on x and on y; and the gap of all
+/// levels.
+type Case = (
+    Texts<'static>,
+    u32,
+    &'static [Row],
+    Vectors,
+    Vectors,
+    u64,
+);
+
+const CASES: [Case; 5] = [
+    (
+        ONE,
+        4,
+        &[
+            (1_000_000_000_000, 1_000_010_000_000, 1_000_000_000_000, 1_000_010_000_000, &[0]),
+        ],
+        (
+            &[1_000_005_000_000],
+            &[1_000_005_000_000],
+            &[1_000_005_000_000],
+        ),
+        (
+            &[1_000_005_000_000],
+            &[1_000_005_000_000],
+            &[1_000_005_000_000],
+        ),
+        0,
+    ),
+    (
+        UNEVEN,
+        4,
+        &[
+            (1_000_000_000_000, 1_000_010_000_000, 1_000_000_000_000, 1_000_010_000_000, &[0]),
+        ],
+        (
+            &[1_000_003_333_333],
+            &[1_000_003_333_334],
+            &[1_000_003_333_333],
+        ),
+        (
+            &[1_000_005_000_000],
+            &[1_000_005_000_000],
+            &[1_000_005_000_000],
+        ),
+        1,
+    ),
+    (
+        CHAIN,
+        0,
+        &[
+            (1_000_000_000_000, 1_000_010_000_000, 1_000_000_000_000, 1_000_010_000_000, &[0, 1]),
+        ],
+        (
+            &[1_000_003_333_333, 1_000_006_666_666],
+            &[1_000_003_333_334, 1_000_006_666_667],
+            &[1_000_003_333_333, 1_000_006_666_666],
+        ),
+        (
+            &[1_000_004_999_999, 1_000_004_999_999],
+            &[1_000_005_000_001, 1_000_005_000_001],
+            &[1_000_005_000_000, 1_000_005_000_000],
+        ),
+        2,
+    ),
+    // each cell has a half of the core, and stands between its pad and the line
+    (
+        CHAIN,
+        1,
+        &[
+            (1_000_000_000_000, 1_000_005_000_000, 1_000_000_000_000, 1_000_010_000_000, &[0]),
+            (1_000_005_000_000, 1_000_010_000_000, 1_000_000_000_000, 1_000_010_000_000, &[1]),
+        ],
+        (
+            &[1_000_002_500_000, 1_000_007_500_000],
+            &[1_000_002_500_000, 1_000_007_500_000],
+            &[1_000_002_500_000, 1_000_007_500_000],
+        ),
+        (
+            &[1_000_005_000_000, 1_000_005_000_000],
+            &[1_000_005_000_000, 1_000_005_000_000],
+            &[1_000_005_000_000, 1_000_005_000_000],
+        ),
+        2,
+    ),
+    // found by a script that shares no code
+    (
+        MESH,
+        3,
+        &[
+            (1_000_000_000_000, 1_000_006_000_000, 1_000_000_000_000, 1_000_003_333_333, &[0]),
+            (1_000_000_000_000, 1_000_006_000_000, 1_000_003_333_333, 1_000_010_000_000, &[1]),
+            (1_000_006_000_000, 1_000_012_000_000, 1_000_000_000_000, 1_000_010_000_000, &[2]),
+            (1_000_000_000_000, 1_000_006_000_000, 1_000_010_000_000, 1_000_016_666_666, &[4]),
+            (1_000_000_000_000, 1_000_006_000_000, 1_000_016_666_666, 1_000_020_000_000, &[3]),
+            (1_000_006_000_000, 1_000_012_000_000, 1_000_010_000_000, 1_000_020_000_000, &[5]),
+        ],
+        (
+            &[
+                1_000_004_211_328,
+                1_000_005_357_357,
+                1_000_007_374_534,
+                1_000_005_357_357,
+                1_000_005_535_427,
+                1_000_008_480_465,
+            ],
+            &[
+                1_000_004_211_329,
+                1_000_005_357_357,
+                1_000_007_374_535,
+                1_000_005_357_357,
+                1_000_005_535_428,
+                1_000_008_480_465,
+            ],
+            &[
+                1_000_004_211_328,
+                1_000_005_357_357,
+                1_000_007_374_534,
+                1_000_005_357_357,
+                1_000_005_535_427,
+                1_000_008_480_465,
+            ],
+        ),
+        (
+            &[
+                1_000_003_333_333,
+                1_000_006_710_239,
+                1_000_006_225_489,
+                1_000_017_777_777,
+                1_000_012_208_333,
+                1_000_012_166_666,
+            ],
+            &[
+                1_000_003_333_333,
+                1_000_006_710_240,
+                1_000_006_225_490,
+                1_000_017_777_778,
+                1_000_012_208_333,
+                1_000_012_166_667,
+            ],
+            &[
+                1_000_003_333_333,
+                1_000_006_710_239,
+                1_000_006_225_489,
+                1_000_017_777_777,
+                1_000_012_208_333,
+                1_000_012_166_666,
+            ],
+        ),
+        8,
+    ),
+];
+
+/// The seats that each design is solved with.
+const SEATS: [usize; 3] = [1, 2, 7];
+
+/// Whether these are the solve's vectors and mids.
+fn is_solved(solve: &Solve, vectors: Vectors) -> bool {
+    solve.lo.as_slice() == vectors.0
+        && solve.hi.as_slice() == vectors.1
+        && solve.mid.as_slice() == vectors.2
+}
+
+#[test]
+fn designs_have_levels(rt: HostRuntime) -> Result<(), Fail> {
+    for (texts, count, rows, x, y, widest) in CASES {
+        let network = made(&rt, rt.alloc(), &texts).expect(&rt, "a network");
+        let Ok(reach) = reach(rt.alloc(), &network) else {
+            panic!(rt; "a point has no chain");
+        };
+        assert!(rt; count <= MOST_LEVELS);
+        for seats in SEATS {
+            assert!(rt; 1 <= seats && seats <= MOST_SEATS);
+            let options = Options {
+                levels: count,
+                seats,
+            };
+            let levels = levels(&rt, rt.alloc(), &network, &reach, options, &OpenGate)?;
+            let all = levels.as_slice();
+            assert_eq!(rt; all.len(), count as usize + 1);
+            let last = &all[count as usize];
+            are(&rt, &last.regions, rows);
+            assert!(rt; is_solved(&last.x, x), "x with {seats} seats");
+            assert!(rt; is_solved(&last.y, y), "y with {seats} seats");
+            assert_eq!(rt; gap(&levels), widest);
+        }
+    }
+    Ok(())
+}
+
+/// The upper end of the boxes, and of each point the anchor and the anchored sum.
+type Constants = (Axis, u64, [(u64, u128); 2]);
+
+const CONSTANTS: [Constants; 2] = [
+    // the pad is moved to the lower end
+    (
+        Axis::X,
+        1_000_020_000_000,
+        [(1_260, 1_260_007_980_000_000), (420, 420_007_980_000_000)],
+    ),
+    (
+        Axis::Y,
+        1_000_010_000_000,
+        [(1_260, 1_260_008_190_000_000), (420, 420_003_990_000_000)],
+    ),
+];
+
+/// Whether the point of that number is in the box, has the constants, and is joined to the other.
+fn is_same(system: &System, i: usize, high: u64, constants: (u64, u128), other: u32) -> bool
+    requires { i < length system.now }
+{
+    let point = system.point(i);
+    let near = [Near {
+        point: other,
+        weight: 2_940,
+    }];
+    (point.lo, point.hi) == (1_000_000_000_000, high)
+        && (point.anchor, point.anchored) == constants
+        && point.near.as_slice() == near.as_slice()
+}
+
+#[test]
+fn the_core_has_a_system_on_each_axis(rt: HostRuntime) -> Result<(), Fail> {
+    let network = made(&rt, rt.alloc(), &BLOCK).expect(&rt, "a network");
+    let Ok(_) = reach(rt.alloc(), &network) else {
+        panic!(rt; "a point has no chain");
+    };
+    let core = (1_000_000_000_000, 1_000_020_000_000, 1_000_010_000_000);
+    let regions = whole(rt.alloc(), network.points(), core.0, core.1, core.0, core.2)?;
+    let mids = vec![in rt.alloc(); 0; network.points()]?;
+    for (axis, high, [first, second]) in CONSTANTS {
+        let system = project(rt.alloc(), &network, axis, &regions, &mids)?;
+        assert_eq!(rt; system.points(), 2);
+        assert!(rt; is_same(&system, 0, high, first, 1));
+        assert!(rt; is_same(&system, 1, high, second, 0));
+    }
+    Ok(())
+}
