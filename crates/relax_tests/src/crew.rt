@@ -110,6 +110,7 @@ fn deals<R: Threads + Abort + Sync>(
 ) -> Result<(), Memory>
     requires { IsCrewSize seats }
 {
+    assert!(rt; owners.len() <= 7);
     let system = chain_of(rt, alloc, owners.len() as u32, 9)?;
     assert!(rt; 0 < system.points());
     let rising = Watch::over(alloc, system.points())?;
