@@ -14,6 +14,3 @@ mod verdict;
 
 pub use certificate::check;
 pub use verdict::{Side2, Verdict};
-
-#[cfg(test)]
-mod tests;

@@ -19,6 +19,3 @@ mod spaced;
 pub use ceil::{CeilAnswer, greatest};
 pub use floor::{FloorAnswer, least};
 pub use range::MOST_SEATS;
-
-#[cfg(test)]
-mod tests;

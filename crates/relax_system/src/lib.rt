@@ -29,6 +29,3 @@ pub use side::Side;
 pub use system::System;
 pub use valid::{MOST_COORDINATE, MOST_POINTS, MOST_WEIGHT, is_valid};
 pub use values::Values;
-
-#[cfg(test)]
-mod tests;

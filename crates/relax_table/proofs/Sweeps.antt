@@ -24,7 +24,7 @@ use Rattle.relax_table.specs.Forms.Sweep.{SweepsOnce}
 use Rattle.relax_table.proofs.Numbers.{apart-positive}
 use Rattle.relax_table.proofs.Distances.{distance-add, distance_to_set}
 use Rattle.relax_table.proofs.Seated.{advances_on, advances_none, continues_on, continues_none}
-use Rattle.relax_table.proofs.Ranges.{once_none, once_more}
+use Rattle.relax_table.proofs.Ranges.{once_more}
 
 -- whether a vector went on, or stayed as it was
 abbrev pub WentOn : Side → Bool → List ℕ → List ℕ → Type 0

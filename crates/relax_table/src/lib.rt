@@ -28,6 +28,3 @@ pub use relax::Relaxed;
 pub use seat::{Renewal, SideSeat};
 pub use steps::Steps;
 pub use table::SideTable;
-
-#[cfg(test)]
-mod tests;

@@ -1,7 +1,17 @@
-//! The tests of the equations, by public calls alone.
+//! The tests of the equations: of the search for chains, of systems, tables, crews and certificates, by public calls alone.
 //!
 //! It hands out nothing, and no crate stands on it. A crate with tests of its own would be proved twice.
 #![tactic(auto)]
 
 #[cfg(test)]
+mod certificate;
+#[cfg(test)]
+mod crew;
+#[cfg(test)]
 mod reach;
+#[cfg(test)]
+mod samples;
+#[cfg(test)]
+mod system;
+#[cfg(test)]
+mod table;

@@ -1,7 +1,10 @@
+//! Webs of a few points that were worked by hand, and a long line.
+
 ghost use Rattle.std.specs.Prelude.{◌<◌, ◌≤◌, All, vec_len};
 
-use pad_reach::{ReachError, Web, reach};
+use pad_reach::{MOST_POINTS, ReachError, Web, reach, reach_leads};
 use std::alloc::{AllocError, Global};
+use std::process::Abort;
 use std::test::Fail;
 
 /// A point of a sample.
@@ -41,37 +44,35 @@ impl Web for Sample {
     }
 }
 
-/// The web of these points; None where a neighbour is no point.
-fn web_of(spots: Vec<Spot>) -> Option<Sample> {
+/// The web of these points, whose neighbours are points.
+fn web_of(rt: &impl Abort, spots: Vec<Spot>) -> Sample {
     let count = spots.len();
-    let inside = spots
-        .iter()
-        .all(|spot| spot.near.iter().all(|q| (*q as usize) < count));
-    if inside && count <= 2_097_152 {
-        Some(Sample { spots })
-    } else {
-        None
-    }
+    assert!(rt; count <= MOST_POINTS);
+    assert!(rt;
+        spots
+            .iter()
+            .all(|spot| spot.near.iter().all(|q| (*q as usize) < count))
+    );
+    Sample { spots }
 }
 
-/// The web of these neighbours, in which the marked points are anchored.
-fn make_sample(
-    alloc: Global,
-    near: &[&[u32]],
-    anchored: &[bool],
-) -> Result<Option<Sample>, AllocError> {
+/// A point of a web: its neighbours, and whether it is anchored.
+type Row = (&'static [u32], bool);
+
+/// The web of these points.
+fn make_sample(rt: &impl Abort, alloc: Global, rows: &[Row]) -> Result<Sample, AllocError> {
     let mut spots = Vec::new(alloc);
-    for (row, flag) in near.iter().zip(anchored) {
+    for (near, anchored) in rows {
         spots.push(Spot {
-            near: row.to_vec(alloc)?,
-            anchored: *flag,
+            near: near.to_vec(alloc)?,
+            anchored: *anchored,
         })?;
     }
-    Ok(web_of(spots))
+    Ok(web_of(rt, spots))
 }
 
 /// A line of points, each with the next one as its neighbour, anchored at its far end.
-fn make_line(alloc: Global, points: u32) -> Result<Option<Sample>, AllocError> {
+fn make_line(rt: &impl Abort, alloc: Global, points: u32) -> Result<Sample, AllocError> {
     let mut spots = Vec::new(alloc);
     for next in 1..points {
         spots.push(Spot {
@@ -83,7 +84,7 @@ fn make_line(alloc: Global, points: u32) -> Result<Option<Sample>, AllocError> {
         near: Vec::new(alloc),
         anchored: true,
     })?;
-    Ok(web_of(spots))
+    Ok(web_of(rt, spots))
 }
 
 /// Where each point's chain goes on, and how long it is.
@@ -96,47 +97,47 @@ fn steps<W: Web>(alloc: Global, web: &W) -> Result<Vec<(Option<u32>, u32)>, Reac
     Ok(pairs)
 }
 
+/// Webs, and the step of each point.
+const REACHED: [(&[Row], &[(Option<u32>, u32)]); 3] = [
+    // three points in a row, of which the last is anchored
+    (
+        &[(&[1], false), (&[0, 2], false), (&[1], true)],
+        &[(Some(1), 2), (Some(2), 1), (None, 0)],
+    ),
+    // the neighbours of a point needn't have it as theirs, and may stand there twice
+    (
+        &[(&[], true), (&[2, 2], false), (&[0], false)],
+        &[(None, 0), (Some(2), 2), (Some(0), 1)],
+    ),
+    (&[], &[]),
+];
+
+/// Webs, and the first point without a chain.
+const UNREACHED: [(&[Row], u32); 3] = [
+    // a row without an anchored point
+    (&[(&[1, 1], false), (&[0, 2], false), (&[1, 1], false)], 0),
+    // the last two have each other alone
+    (&[(&[0, 0], true), (&[2, 2], false), (&[1, 1], false)], 1),
+    // the anchored point leads to the last one, which leads nowhere
+    (&[(&[1, 1], false), (&[2, 2], true), (&[2, 2], false)], 2),
+];
+
 #[test]
 fn chains_lead_to_anchored_points(rt: HostRuntime) -> Result<(), Fail> {
-    let alloc = rt.alloc();
-
-    // Three points in a row, of which the last is anchored.
-    let row = make_sample(alloc, &[&[1], &[0, 2], &[1]], &[false, false, true])?.ok_or("row")?;
-    let found = steps(alloc, &row)?;
-    assert_eq!(rt;
-        found.as_slice(),
-        [(Some(1), 2), (Some(2), 1), (None, 0)].as_slice()
-    );
-
-    // The neighbours of a point needn't have it as theirs, and may stand there twice.
-    let one_way = make_sample(alloc, &[&[], &[2, 2], &[0]], &[true, false, false])?.ok_or(
-        "one way",
-    )?;
-    let found = steps(alloc, &one_way)?;
-    assert_eq!(rt;
-        found.as_slice(),
-        [(None, 0), (Some(2), 2), (Some(0), 1)].as_slice()
-    );
-
-    let empty = make_sample(alloc, &[], &[])?.ok_or("empty")?;
-    assert!(rt; steps(alloc, &empty)?.is_empty());
+    for (rows, want) in REACHED {
+        let web = make_sample(&rt, rt.alloc(), rows)?;
+        assert_eq!(rt; steps(rt.alloc(), &web)?.as_slice(), want);
+    }
+    reach_leads();
     Ok(())
 }
 
 #[test]
 fn a_point_without_a_chain_is_named(rt: HostRuntime) -> Result<(), Fail> {
-    let alloc = rt.alloc();
-    for (near, anchored, want) in [
-        // a row without an anchored point
-        ([[1u32, 1], [0, 2], [1, 1]], [false, false, false], 0),
-        // the last two have each other alone
-        ([[0, 0], [2, 2], [1, 1]], [true, false, false], 1),
-        // the anchored point leads to the last one, which leads nowhere
-        ([[1, 1], [2, 2], [2, 2]], [false, true, false], 2),
-    ] {
-        let web = make_sample(alloc, &[&near[0], &near[1], &near[2]], &anchored)?.ok_or("web")?;
+    for (rows, want) in UNREACHED {
+        let web = make_sample(&rt, rt.alloc(), rows)?;
         assert_eq!(rt;
-            reach(alloc, &web).err(),
+            reach(rt.alloc(), &web).err(),
             Some(ReachError::Unanchored(want))
         );
     }
@@ -145,17 +146,12 @@ fn a_point_without_a_chain_is_named(rt: HostRuntime) -> Result<(), Fail> {
 
 #[test]
 fn a_long_line_is_followed_to_its_end(rt: HostRuntime) -> Result<(), Fail> {
-    let alloc = rt.alloc();
-    let line = make_line(alloc, 2000)?.ok_or("line")?;
-    let found = steps(alloc, &line)?;
+    let line = make_line(&rt, rt.alloc(), 2000)?;
+    let found = steps(rt.alloc(), &line)?;
     assert_eq!(rt; found.len(), 2000);
-    for i in 0..1999u32 {
-        assert_eq!(rt;
-            found.get(i as usize).copied(),
-            Some((Some(i + 1), 1999 - i)),
-            "at {i}"
-        );
+    for (i, step) in found.iter().enumerate() {
+        let goes_on = if i < 1999 { Some(i as u32 + 1) } else { None };
+        assert_eq!(rt; *step, (goes_on, 1999 - i as u32), "at {i}");
     }
-    assert_eq!(rt; found.get(1999).copied(), Some((None, 0)));
     Ok(())
 }

@@ -1,12 +1,12 @@
 //! Small systems, worked by hand, by one seat and by many, and gates that watch the seats.
 
-ghost use Rattle.std.specs.Prelude.{◌<◌, ◌≤◌, length};
+ghost use Rattle.std.specs.Prelude.{◌<◌, length};
 ghost use Rattle.relax_crew.specs.Crew.{IsCrewSize};
 
-use crate::{greatest, least};
+use crate::samples::{PAIR, Row, chain_of, system_of};
 use book_outer::{Gate, OpenGate};
 use book_text::Memory;
-use relax_system::{Near, NearList, Point, Points, System, is_valid};
+use relax_crew::{MOST_SEATS, greatest, least};
 use std::alloc::Global;
 use std::process::Abort;
 use std::sync::atomic::{AtomicBool, AtomicU64, Ordering};
@@ -16,68 +16,45 @@ use std::thread::Threads;
 /// How often a seat looks for the other one.
 const TURNS: u64 = 50_000_000;
 
-/// A chain of points in one box from 0 to `top`, neighbours joined with weight 1. The first point has a constant 0, the
-/// last one a constant `top`, each of weight 1.
-fn chain_of(rt: &impl Abort, alloc: Global, count: u32, top: u64) -> Result<System, Memory> {
-    let mut points = Points::new(alloc);
-    for i in 0..count {
-        let mut near = NearList::new(alloc);
-        if 0 < i {
-            near.push(Near {
-                point: i - 1,
-                weight: 1,
-            })?;
-        }
-        if i < count - 1 {
-            near.push(Near {
-                point: i + 1,
-                weight: 1,
-            })?;
-        }
-        let ends = u64::from(i == 0 || i == count - 1);
-        points.push(Point {
-            lo: 0,
-            hi: top,
-            near,
-            anchor: ends,
-            anchored: if i == 0 {
-                0
-            } else {
-                u128::from(ends) * u128::from(top)
-            },
-        })?;
-    }
-    assert!(rt; is_valid(points.as_slice()));
-    Ok(System::new(points))
-}
+/// Four points in the box from 0 to 1 that aren't joined, each with the constant 1.
+const RISING: [Row; 4] = [
+    (0, 1, &[], 1, 1),
+    (0, 1, &[], 1, 1),
+    (0, 1, &[], 1, 1),
+    (0, 1, &[], 1, 1),
+];
 
-/// Two points in the box from 0 to 3, from below and from above. The one raise and the one lower are made by whichever seat.
-fn solves<R: Threads + Abort + Sync>(
-    rt: &R,
-    alloc: Global,
-    system: &System,
-    seats: usize,
-) -> Result<(), Memory>
-    requires some { 0 < length system.now }
-    requires seats { IsCrewSize seats }
-{
-    let low = least(rt, alloc, system, seats, &OpenGate)?;
-    assert_eq!(rt; low.seat.seen(), [0, 1].as_slice());
-    assert_eq!(rt; low.raises, 1);
-    let high = greatest(rt, alloc, system, seats, &OpenGate)?;
-    assert_eq!(rt; high.seat.seen(), [2, 3].as_slice());
-    assert_eq!(rt; high.lowers, 1);
-    Ok(())
-}
+/// The same with the constant 0.
+const FALLING: [Row; 4] = [
+    (0, 1, &[], 1, 0),
+    (0, 1, &[], 1, 0),
+    (0, 1, &[], 1, 0),
+    (0, 1, &[], 1, 0),
+];
 
+/// Four points in the box from 0 to 9. The two in the middle are joined; the second of them has nearly the weight of its
+/// constant 9 alone, and the others have no pull.
+const PULLED: [Row; 4] = [
+    (0, 9, &[], 1, 0),
+    (0, 9, &[(2, 1)], 1, 4),
+    (0, 9, &[(1, 1)], 100, 900),
+    (0, 9, &[], 1, 0),
+];
+
+/// The pair from below and from above. The one raise and the one lower are made by whichever seat.
 #[test]
 fn any_seats_solve_the_pair(rt: HostRuntime) -> Result<(), Fail> {
-    let system = chain_of(&rt, rt.alloc(), 2, 3)?;
-    assert!(rt; system.points() == 2);
-    solves(&rt, rt.alloc(), &system, 1)?;
-    solves(&rt, rt.alloc(), &system, 2)?;
-    solves(&rt, rt.alloc(), &system, 3)?;
-    solves(&rt, rt.alloc(), &system, 64)?;
+    let system = system_of(&rt, rt.alloc(), &PAIR)?;
+    assert!(rt; 0 < system.points());
+    for seats in [1, 2, 3, 64] {
+        assert!(rt; 1 <= seats && seats <= MOST_SEATS);
+        let low = least(&rt, rt.alloc(), &system, seats, &OpenGate)?;
+        assert_eq!(rt; low.seat.seen(), [0, 1].as_slice());
+        assert_eq!(rt; low.raises, 1);
+        let high = greatest(&rt, rt.alloc(), &system, seats, &OpenGate)?;
+        assert_eq!(rt; high.seat.seen(), [2, 3].as_slice());
+        assert_eq!(rt; high.lowers, 1);
+    }
     Ok(())
 }
 
@@ -114,6 +91,16 @@ impl Gate for Watch {
     }
 }
 
+/// The seats of each point of a chain, and how many seats there are.
+const DEALS: [(&[u8], usize); 6] = [
+    (&[0, 0, 0], 1),
+    (&[0, 0, 1, 1], 2),
+    (&[0, 1, 2, 2], 3),
+    (&[0, 0, 1, 1, 2, 2, 2], 3),
+    (&[2, 4], 5),
+    (&[15, 31, 47, 63], 64),
+];
+
 /// The seats pass the points of a chain, each its own range.
 fn deals<R: Threads + Abort + Sync>(
     rt: &R,
@@ -121,9 +108,9 @@ fn deals<R: Threads + Abort + Sync>(
     owners: &[u8],
     seats: usize,
 ) -> Result<(), Memory>
-    requires few { length owners.now ≤ 64 }
-    requires seats { IsCrewSize seats }
+    requires { IsCrewSize seats }
 {
+    assert!(rt; owners.len() <= 7);
     let system = chain_of(rt, alloc, owners.len() as u32, 9)?;
     assert!(rt; 0 < system.points());
     let rising = Watch::over(alloc, system.points())?;
@@ -137,12 +124,10 @@ fn deals<R: Threads + Abort + Sync>(
 
 #[test]
 fn each_point_is_passed_once_by_its_seat(rt: HostRuntime) -> Result<(), Fail> {
-    deals(&rt, rt.alloc(), &[0, 0, 0], 1)?;
-    deals(&rt, rt.alloc(), &[0, 0, 1, 1], 2)?;
-    deals(&rt, rt.alloc(), &[0, 1, 2, 2], 3)?;
-    deals(&rt, rt.alloc(), &[0, 0, 1, 1, 2, 2, 2], 3)?;
-    deals(&rt, rt.alloc(), &[2, 4], 5)?;
-    deals(&rt, rt.alloc(), &[15, 31, 47, 63], 64)?;
+    for (owners, seats) in DEALS {
+        assert!(rt; 1 <= seats && seats <= MOST_SEATS);
+        deals(&rt, rt.alloc(), owners, seats)?;
+    }
     Ok(())
 }
 
@@ -205,7 +190,7 @@ impl Meeting {
 #[test]
 fn two_seats_meet(rt: HostRuntime) -> Result<(), Fail> {
     let system = chain_of(&rt, rt.alloc(), 4, 9)?;
-    assert!(rt; system.points() == 4);
+    assert!(rt; 0 < system.points());
     let rising = Meeting::new();
     let low = least(&rt, rt.alloc(), &system, 2, &rising)?;
     assert_eq!(rt; low.seat.seen(), [0, 1, 3, 6].as_slice());
@@ -217,27 +202,11 @@ fn two_seats_meet(rt: HostRuntime) -> Result<(), Fail> {
     Ok(())
 }
 
-/// Four points that aren't joined, in the box from 0 to 1, each with the same constant.
-fn loose_points(rt: &impl Abort, alloc: Global, constant: u128) -> Result<System, Memory> {
-    let mut points = Points::new(alloc);
-    for _ in 0..4 {
-        points.push(Point {
-            lo: 0,
-            hi: 1,
-            near: NearList::new(alloc),
-            anchor: 1,
-            anchored: constant,
-        })?;
-    }
-    assert!(rt; is_valid(points.as_slice()));
-    Ok(System::new(points))
-}
-
 /// Each point is raised once, and each of the two seats has raised the first one of its range before they meet.
 #[test]
 fn the_raises_of_both_seats_are_counted(rt: HostRuntime) -> Result<(), Fail> {
-    let system = loose_points(&rt, rt.alloc(), 1)?;
-    assert!(rt; system.points() == 4);
+    let system = system_of(&rt, rt.alloc(), &RISING)?;
+    assert!(rt; 0 < system.points());
     let gate = Meeting::new();
     let low = least(&rt, rt.alloc(), &system, 2, &gate)?;
     assert!(rt; gate.took_place());
@@ -249,8 +218,8 @@ fn the_raises_of_both_seats_are_counted(rt: HostRuntime) -> Result<(), Fail> {
 /// Each point is lowered once, and each of the two seats has lowered the first one of its range before they meet.
 #[test]
 fn the_lowers_of_both_seats_are_counted(rt: HostRuntime) -> Result<(), Fail> {
-    let system = loose_points(&rt, rt.alloc(), 0)?;
-    assert!(rt; system.points() == 4);
+    let system = system_of(&rt, rt.alloc(), &FALLING)?;
+    assert!(rt; 0 < system.points());
     let gate = Meeting::new();
     let high = greatest(&rt, rt.alloc(), &system, 2, &gate)?;
     assert!(rt; gate.took_place());
@@ -290,39 +259,12 @@ impl Gate for Turns {
     }
 }
 
-/// Four points in the box from 0 to 9. The two in the middle are joined; the second of them has nearly the weight of its
-/// constant 9 alone, and the others have no pull.
-fn pulled_pair(rt: &impl Abort, alloc: Global) -> Result<System, Memory> {
-    let rows: [(Option<u32>, u64, u128); 4] = [
-        (None, 1, 0),
-        (Some(2), 1, 4),
-        (Some(1), 100, 900),
-        (None, 1, 0),
-    ];
-    let mut points = Points::new(alloc);
-    for (other, anchor, anchored) in rows {
-        let mut near = NearList::new(alloc);
-        if let Some(point) = other {
-            near.push(Near { point, weight: 1 })?;
-        }
-        points.push(Point {
-            lo: 0,
-            hi: 9,
-            near,
-            anchor,
-            anchored,
-        })?;
-    }
-    assert!(rt; is_valid(points.as_slice()));
-    Ok(System::new(points))
-}
-
 /// The third point is raised to 8 before the second one is relaxed, which then rises to 6 at once. Where the gate is called
 /// before a relaxation, the second point rises to 2 first, and there are three raises.
 #[test]
 fn the_gate_is_called_after_the_relaxation(rt: HostRuntime) -> Result<(), Fail> {
-    let system = pulled_pair(&rt, rt.alloc())?;
-    assert!(rt; system.points() == 4);
+    let system = system_of(&rt, rt.alloc(), &PULLED)?;
+    assert!(rt; 0 < system.points());
     let gate = Turns {
         second_came: AtomicBool::new(false),
         first_came: AtomicBool::new(false),

@@ -1,4 +1,4 @@
-use Rattle.relax_table.proofs.tests.two_threads_settle_one_chain.Given as goal
+use Rattle.relax_tests.proofs.table.two_threads_settle_one_chain.Given as goal
 
 abbrev pub ghosts-race-L-Ledger : goal.ghosts-race-L-Ledger
 ghosts-race-L-Ledger g a = record { name = a.blanks.0.name; parts = a.blanks.0.parts }
