@@ -184,34 +184,34 @@ impl Gate for Watch {
 }
 
 /// Words that ask for levels and seats, which seat owns each of the four cells, and how many solves there are.
-type Deal = (&'static [&'static str], [u8; 4], u64);
+type Deal = (&'static [&'static str], &'static [u8], u64);
 
 const DEALS: [Deal; 7] = [
-    (&["proud", "--levels", "0", "a.aux"], [0, 1, 2, 3], 4),
+    (&["proud", "--levels", "0", "a.aux"], &[0, 1, 2, 3], 4),
     (
         &["proud", "--levels", "0", "--seats", "1", "a.aux"],
-        [0, 0, 0, 0],
+        &[0, 0, 0, 0],
         4,
     ),
     (
         &["proud", "--levels", "0", "--seats", "3", "a.aux"],
-        [0, 1, 2, 2],
+        &[0, 1, 2, 2],
         4,
     ),
     (
         &["proud", "--levels", "0", "--seats", "7", "a.aux"],
-        [1, 3, 5, 6],
+        &[1, 3, 5, 6],
         4,
     ),
     (
         &["proud", "--levels", "0", "--seats", "64", "a.aux"],
-        [15, 31, 47, 63],
+        &[15, 31, 47, 63],
         4,
     ),
-    (&["proud", "--levels", "1", "a.aux"], [0, 1, 2, 3], 8),
+    (&["proud", "--levels", "1", "a.aux"], &[0, 1, 2, 3], 8),
     (
         &["proud", "--levels", "1", "--seats", "3", "a.aux"],
-        [0, 1, 2, 2],
+        &[0, 1, 2, 2],
         8,
     ),
 ];
@@ -227,7 +227,7 @@ fn as_many_seats_work_as_are_asked_for(rt: HostRuntime) -> Result<(), Fail> {
         let words = words_of(alloc, words)?;
         let status = proud(&rt, alloc, &words, &mut folder, &mut report, &gate);
         assert_eq!(rt; status, Status::Done);
-        gate.shows(&rt, &owners, solves);
+        gate.shows(&rt, owners, solves);
     }
     Ok(())
 }
