@@ -38,7 +38,9 @@ impl Grid {
 
 /// So far behind the beginning of a place of this side, but not past the end of all places.
 fn mid(place: u32, side: u64, places: u32, further: u64) -> u64 {
-    let at = u64::from(place).saturating_mul(side).saturating_add(further);
+    let at = u64::from(place)
+        .saturating_mul(side)
+        .saturating_add(further);
     let end = u64::from(places).saturating_mul(side);
     at.min(end).saturating_add(book_text::MOST_MICRO)
 }

@@ -48,7 +48,13 @@ fn asked(rt: &HostRuntime) -> io::Result<(Grid, u32)> {
         };
         Ok((grid, numbers[2]))
     } else {
-        Ok((Grid { rows: 4, columns: 4 }, 2))
+        Ok((
+            Grid {
+                rows: 4,
+                columns: 4,
+            },
+            2,
+        ))
     }
 }
 
@@ -63,7 +69,11 @@ fn too_large() -> io::Error {
 
 /// The network of the texts.
 fn made(alloc: Global, texts: &Texts) -> io::Result<Network> {
-    let longest = texts.nodes.len().max(texts.nets.len()).max(texts.rows.len());
+    let longest = texts
+        .nodes
+        .len()
+        .max(texts.nets.len())
+        .max(texts.rows.len());
     if longest > MOST_BYTES {
         return Err(too_large());
     }
@@ -71,8 +81,7 @@ fn made(alloc: Global, texts: &Texts) -> io::Result<Network> {
     let nets = read_nets(alloc, texts.nets.as_bytes()).map_err(|_| too_large())?;
     let places = read_pl(alloc, texts.places.as_bytes()).map_err(|_| too_large())?;
     let rows = read_scl(alloc, texts.rows.as_bytes()).map_err(|_| too_large())?;
-    let design =
-        join_design(alloc, &nodes, &nets, None, &places, &rows).map_err(|_| too_large())?;
+    let design = join_design(alloc, &nodes, &nets, None, &places, &rows).map_err(|_| too_large())?;
     network(alloc, &design).map_err(|_| too_large())
 }
 
@@ -162,7 +171,11 @@ fn print_regions(rt: &HostRuntime, regions: &Regions) -> io::Result<()> {
     let mut number: u64 = 0;
     for region in regions {
         number = number.wrapping_add(1);
-        let first = region.points.as_slice().first().map_or(0, |p| u64::from(*p));
+        let first = region
+            .points
+            .as_slice()
+            .first()
+            .map_or(0, |p| u64::from(*p));
         let left = region.xlo.wrapping_sub(MOST_MICRO);
         let bottom = region.ylo.wrapping_sub(MOST_MICRO);
         let ends = left.wrapping_add(bottom).wrapping_add(first);

@@ -33,8 +33,9 @@ fn nodes_text(alloc: Global, grid: Grid) -> Result<String, AllocError> {
     let cells = grid.cell(grid.rows, 0);
     let pads = grid.rows.saturating_mul(2);
     let nodes = cells.saturating_add(pads);
-    let mut text =
-        format!(in alloc; "UCLA nodes 1.0\nNumNodes : {nodes}\nNumTerminals : {pads}\n")?;
+    let mut text = format!(in alloc;
+        "UCLA nodes 1.0\nNumNodes : {nodes}\nNumTerminals : {pads}\n"
+    )?;
     for i in 0..cells {
         let width = 1 + i % 4;
         text.push_str(&format!(in alloc; "c{i} {width} 10\n")?)?;
@@ -89,7 +90,9 @@ fn rows_text(alloc: Global, grid: Grid) -> Result<String, AllocError> {
     let mut text = format!(in alloc; "UCLA scl 1.0\nNumRows : {rows}\n")?;
     for row in 0..rows {
         let y = u64::from(row) * 10;
-        text.push_str(&format!(in alloc; "CoreRow Horizontal\n Coordinate : {y}\n Height : 10\n")?)?;
+        text.push_str(&format!(in alloc;
+            "CoreRow Horizontal\n Coordinate : {y}\n Height : 10\n"
+        )?)?;
         text.push_str(&format!(in alloc; " Sitewidth : 1\n Sitespacing : 1\n")?)?;
         text.push_str(&format!(in alloc; " SubrowOrigin : 0 NumSites : {sites}\nEnd\n")?)?;
     }

@@ -43,11 +43,7 @@ fn join<'a>(rt: &impl Abort, alloc: Global, texts: &Texts<'a>) -> Result<Design<
 }
 
 /// The network of these texts.
-pub(crate) fn made(
-    rt: &impl Abort,
-    alloc: Global,
-    texts: &Texts<'_>,
-) -> Result<Network, NetError> {
+pub(crate) fn made(rt: &impl Abort, alloc: Global, texts: &Texts<'_>) -> Result<Network, NetError> {
     let design = join(rt, alloc, texts).expect(rt, "the texts are joined");
     network(alloc, &design)
 }

@@ -65,8 +65,12 @@ pub(crate) fn system_of(rt: &impl Abort, alloc: Global, rows: &[Row]) -> Result<
 
 /// A chain of points in the box from 0 to `top`, neighbours joined with weight 1. The first point has a constant 0, and the
 /// last one, which is another, a constant `top`.
-pub(crate) fn chain_of(rt: &impl Abort, alloc: Global, count: u32, top: u64) -> Result<System, Memory>
-{
+pub(crate) fn chain_of(
+    rt: &impl Abort,
+    alloc: Global,
+    count: u32,
+    top: u64,
+) -> Result<System, Memory> {
     let mut points = Points::new(alloc);
     for i in 0..count {
         let last = count - 1;

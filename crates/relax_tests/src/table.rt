@@ -10,14 +10,7 @@ use crate::samples::{PAIR, Row, chain_of, system_of};
 use book_text::Memory;
 use relax_system::{System, least_plain};
 use relax_table::{
-    CeilSeat,
-    CeilTable,
-    FloorSeat,
-    FloorTable,
-    Lowered,
-    Raised,
-    Steps,
-    ends_may_start,
+    CeilSeat, CeilTable, FloorSeat, FloorTable, Lowered, Raised, Steps, ends_may_start,
 };
 use std::alloc::Global;
 use std::marker::Brand;
@@ -209,8 +202,24 @@ fn goes_up<L: Ledger>(rt: &impl Abort, alloc: Global, steps: &mut Steps<L>) -> R
     let system = system_of(rt, alloc, &PAIR)?;
     let (table, mut seat) = from_bottoms(rt, alloc, &system)?;
     climb(rt, &table, &mut seat, steps, &[], &[0, 0], 0);
-    climb(rt, &table, &mut seat, steps, &[Act::Relax(1, 0, 1)], &[0, 1], 1);
-    climb(rt, &table, &mut seat, steps, &[Act::Relax(0, 0, 0)], &[0, 1], 1);
+    climb(
+        rt,
+        &table,
+        &mut seat,
+        steps,
+        &[Act::Relax(1, 0, 1)],
+        &[0, 1],
+        1,
+    );
+    climb(
+        rt,
+        &table,
+        &mut seat,
+        steps,
+        &[Act::Relax(0, 0, 0)],
+        &[0, 1],
+        1,
+    );
     let mut other = table.split(&mut seat)?;
     climb(rt, &table, &mut other, steps, &[], &[0, 1], 0);
     climb(rt, &table, &mut seat, steps, &[Act::Settle], &[0, 1], 1);
@@ -220,11 +229,23 @@ fn goes_up<L: Ledger>(rt: &impl Abort, alloc: Global, steps: &mut Steps<L>) -> R
 }
 
 /// The same on the way down.
-fn goes_down<L: Ledger>(rt: &impl Abort, alloc: Global, steps: &mut Steps<L>) -> Result<(), Memory> {
+fn goes_down<L: Ledger>(
+    rt: &impl Abort,
+    alloc: Global,
+    steps: &mut Steps<L>,
+) -> Result<(), Memory> {
     let system = system_of(rt, alloc, &PAIR)?;
     let (table, mut seat) = from_tops(rt, alloc, &system)?;
     descend(rt, &table, &mut seat, steps, &[], &[3, 3], 0);
-    descend(rt, &table, &mut seat, steps, &[Act::Relax(0, 3, 2)], &[2, 3], 1);
+    descend(
+        rt,
+        &table,
+        &mut seat,
+        steps,
+        &[Act::Relax(0, 3, 2)],
+        &[2, 3],
+        1,
+    );
     let mut other = table.split(&mut seat)?;
     descend(rt, &table, &mut other, steps, &[], &[2, 3], 0);
     descend(rt, &table, &mut seat, steps, &[Act::Settle], &[2, 3], 1);
@@ -239,52 +260,142 @@ fn looks_up<L: Ledger>(rt: &impl Abort, alloc: Global, steps: &mut Steps<L>) -> 
     let (table, mut seat) = from_bottoms(rt, alloc, &system)?;
     let mut other = table.split(&mut seat)?;
     let mut third = table.split(&mut other)?;
-    climb(rt, &table, &mut seat, steps, &[Act::Relax(1, 0, 1)], &[0, 1], 1);
-    climb(rt, &table, &mut third, steps, &[Act::Relax(0, 0, 0)], &[0, 1], 0);
-    climb(rt, &table, &mut other, steps, &[Act::Look(1, 1)], &[0, 1], 0);
+    climb(
+        rt,
+        &table,
+        &mut seat,
+        steps,
+        &[Act::Relax(1, 0, 1)],
+        &[0, 1],
+        1,
+    );
+    climb(
+        rt,
+        &table,
+        &mut third,
+        steps,
+        &[Act::Relax(0, 0, 0)],
+        &[0, 1],
+        0,
+    );
+    climb(
+        rt,
+        &table,
+        &mut other,
+        steps,
+        &[Act::Look(1, 1)],
+        &[0, 1],
+        0,
+    );
     let acts = [Act::Fetch(0, 0, 0), Act::SettleRange(0, 1)];
     climb(rt, &table, &mut other, steps, &acts, &[0, 1], 0);
     Ok(())
 }
 
 /// The same on the way down.
-fn looks_down<L: Ledger>(rt: &impl Abort, alloc: Global, steps: &mut Steps<L>) -> Result<(), Memory> {
+fn looks_down<L: Ledger>(
+    rt: &impl Abort,
+    alloc: Global,
+    steps: &mut Steps<L>,
+) -> Result<(), Memory> {
     let system = system_of(rt, alloc, &PAIR)?;
     let (table, mut seat) = from_tops(rt, alloc, &system)?;
     let mut other = table.split(&mut seat)?;
     let mut third = table.split(&mut other)?;
-    descend(rt, &table, &mut seat, steps, &[Act::Relax(0, 3, 2)], &[2, 3], 1);
-    descend(rt, &table, &mut third, steps, &[Act::Relax(1, 3, 3)], &[2, 3], 0);
-    descend(rt, &table, &mut other, steps, &[Act::Look(0, 2)], &[2, 3], 0);
+    descend(
+        rt,
+        &table,
+        &mut seat,
+        steps,
+        &[Act::Relax(0, 3, 2)],
+        &[2, 3],
+        1,
+    );
+    descend(
+        rt,
+        &table,
+        &mut third,
+        steps,
+        &[Act::Relax(1, 3, 3)],
+        &[2, 3],
+        0,
+    );
+    descend(
+        rt,
+        &table,
+        &mut other,
+        steps,
+        &[Act::Look(0, 2)],
+        &[2, 3],
+        0,
+    );
     let acts = [Act::Fetch(1, 3, 3), Act::SettleRange(0, 1)];
     descend(rt, &table, &mut other, steps, &acts, &[2, 3], 0);
     Ok(())
 }
 
 /// On the chain of three on the way up, a second seat looks at both neighbours, and finds the word that the first one left.
-fn looks_around_up<L: Ledger>(rt: &impl Abort, alloc: Global, steps: &mut Steps<L>) -> Result<(), Memory> {
+fn looks_around_up<L: Ledger>(
+    rt: &impl Abort,
+    alloc: Global,
+    steps: &mut Steps<L>,
+) -> Result<(), Memory> {
     let system = system_of(rt, alloc, &TRIO)?;
     let (table, mut seat) = from_bottoms(rt, alloc, &system)?;
     let mut other = table.split(&mut seat)?;
-    let acts = [Act::Relax(2, 0, 4), Act::Relax(1, 0, 2), Act::Relax(2, 4, 5), Act::Relax(0, 0, 1)];
+    let acts = [
+        Act::Relax(2, 0, 4),
+        Act::Relax(1, 0, 2),
+        Act::Relax(2, 4, 5),
+        Act::Relax(0, 0, 1),
+    ];
     climb(rt, &table, &mut seat, steps, &acts, &[1, 2, 5], 4);
-    climb(rt, &table, &mut other, steps, &[Act::Relax(1, 2, 3)], &[1, 3, 5], 1);
+    climb(
+        rt,
+        &table,
+        &mut other,
+        steps,
+        &[Act::Relax(1, 2, 3)],
+        &[1, 3, 5],
+        1,
+    );
     Ok(())
 }
 
 /// The same on the way down.
-fn looks_around_down<L: Ledger>(rt: &impl Abort, alloc: Global, steps: &mut Steps<L>) -> Result<(), Memory> {
+fn looks_around_down<L: Ledger>(
+    rt: &impl Abort,
+    alloc: Global,
+    steps: &mut Steps<L>,
+) -> Result<(), Memory> {
     let system = system_of(rt, alloc, &TRIO)?;
     let (table, mut seat) = from_tops(rt, alloc, &system)?;
     let mut other = table.split(&mut seat)?;
-    let acts = [Act::Relax(0, 9, 5), Act::Relax(1, 9, 7), Act::Relax(2, 9, 8), Act::Relax(0, 5, 4)];
+    let acts = [
+        Act::Relax(0, 9, 5),
+        Act::Relax(1, 9, 7),
+        Act::Relax(2, 9, 8),
+        Act::Relax(0, 5, 4),
+    ];
     descend(rt, &table, &mut seat, steps, &acts, &[4, 7, 8], 4);
-    descend(rt, &table, &mut other, steps, &[Act::Relax(1, 7, 6)], &[4, 6, 8], 1);
+    descend(
+        rt,
+        &table,
+        &mut other,
+        steps,
+        &[Act::Relax(1, 7, 6)],
+        &[4, 6, 8],
+        1,
+    );
     Ok(())
 }
 
 /// A seat that settles a fresh table counts the moves that it makes.
-fn counts_the_moves<L: Ledger>(rt: &impl Abort, alloc: Global, steps: &mut Steps<L>) -> Result<(), Memory> {
+fn counts_the_moves<L: Ledger>(
+    rt: &impl Abort,
+    alloc: Global,
+    steps: &mut Steps<L>,
+) -> Result<(), Memory> {
     let system = system_of(rt, alloc, &PAIR)?;
     let (floor, mut rising) = from_bottoms(rt, alloc, &system)?;
     climb(rt, &floor, &mut rising, steps, &[Act::Settle], &[0, 1], 1);

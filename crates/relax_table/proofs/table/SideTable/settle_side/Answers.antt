@@ -14,7 +14,7 @@ sweeps-smaller g c = ends-fall g.D.Direction.side c.args.self.now c.sweeps.seat 
 pub sweeps-preserved : goal.sweeps-preserved
 sweeps-preserved g c = (
   settling_more g.D.Direction.side c.args.self.now _ c.args.seat.now c.sweeps.seat c.sweep.new.seat c.args.steps.now c.sweeps.steps c.sweep.new.steps c.sweeps.invariant.0 c.sweep.ensures.own c.sweep.ensures.advances c.sweep.ensures.counted
-    c.sweep.ensures.steps (MatchBool-at_true _ _ c.sweeps-test.true c.sweep.ensures.moved) (once_continues _ _ _ _ _ c.sweep.ensures.swept),
+      c.sweep.ensures.steps (MatchBool-at_true _ _ c.sweeps-test.true c.sweep.ensures.moved) (once_continues _ _ _ _ _ c.sweep.ensures.swept),
   inr (begins_more c.args.self.now.system c.args.from c.args.to c.args.seat.now c.sweeps.seat c.sweep.new.seat c.sweeps.invariant.1 c.sweep.ensures.swept),
 )
 
