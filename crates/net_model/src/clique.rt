@@ -87,36 +87,3 @@ pub(crate) fn share(weight: u32, degree: usize) -> u64
         0
     }
 }
-
-#[cfg(test)]
-mod tests {
-    use super::*;
-    use std::test::Fail;
-
-    #[test]
-    fn the_first_pin_of_each_node_is_gathered(rt: HostRuntime) -> Result<(), Fail> {
-        let mut clique = Clique::new(rt.alloc(), 3)?;
-        let early = Pin {
-            node: 2,
-            dx: -5,
-            dy: 0,
-        };
-        let late = Pin {
-            node: 2,
-            dx: 5,
-            dy: 0,
-        };
-        let other = Pin {
-            node: 0,
-            dx: 0,
-            dy: 1,
-        };
-        clique.gather(&[early, other, late])?;
-        assert_eq!(rt; clique.pins.as_slice(), [early, other].as_slice());
-
-        // No mark is left for the next net.
-        clique.gather(&[late, early])?;
-        assert_eq!(rt; clique.pins.as_slice(), [late].as_slice());
-        Ok(())
-    }
-}
