@@ -1,11 +1,11 @@
 -- What the code makes of a point's neighbours is what the definition says.
 use Rattle.std.proofs.Common.{◌≡◌, ◌⊎◌, ℕ, ◌+◌, ◌*◌, ◌<◌, ◌≤◌, Bool, true, false, not, cond, eqb, List, [], ◌∷◌, ◌++◌, length, get_or, take, refl, sym, ◌∙◌, ap, subst, inl, inr, arith}
-use Rattle.std.specs.Prelude.{map, sum_by, filter, slice_index, All, Contains}
-use Rattle.std.specs.List.{AllByRecursion, list_any}
+use Rattle.std.specs.Prelude.{map, sum_by, All, Contains}
+use Rattle.std.specs.List.{list_any}
 use Rattle.std.proofs.Math.Nat.{mul-le-mul_right, mul-le-mul_left}
 use Rattle.std.proofs.lemmas.Bool.{cases_Bool, eqb-true, eq-eqb, ne_eqb}
-use Rattle.std.proofs.lemmas.List.{append-nil, get_or_default, take_all}
-use Rattle.std.proofs.lemmas.List.Elements.{filter_more, recursion_from_All, All-weaker, All-contains_itself}
+use Rattle.std.proofs.lemmas.List.{append-nil, get_or_default, map-append, take_all}
+use Rattle.std.proofs.lemmas.List.Elements.{filter_more, All-weaker, All-contains_itself}
 use Rattle.std.proofs.lemmas.List.Filters.{sum_by-filter_both}
 use Rattle.std.proofs.lemmas.List.Sums.{sum_by_push, sum_by-take-le, passes_at_first}
 use Rattle.std.proofs.lemmas.Map.Views.{Contains-from_any}
@@ -56,19 +56,17 @@ homes_more n regions k d old new homes inside before written p there below = by_
       cc in
       written p ∙ ap (λ (b : Bool). cond b k (get_or old p 0)) e ∙ before p there (omega (arith, other))
 
--- ---- neighbours
+-- ---- neighbours in the own region
 
--- two tests that agree on the entries keep the same ones
-filter_same : {X : Type 0} (p q : X → Bool) (xs : List X) → AllByRecursion (λ x. p x ≡ q x) xs → filter p xs ≡ filter q xs
-filter_same p q [] h = refl
-filter_same p q (x ∷ xs) h = ap (λ (b : Bool). cond b (x ∷ filter p xs) (filter p xs)) h.0 ∙ ap (λ ys. cond (q x) (x ∷ ys) ys) (filter_same p q xs h.1)
+pub inner_takes : (regions : List Region) (p : ℕ) (near : List Near) (i : ℕ) (d : Near) → i < length near → is_inside regions p (get_or near i d) ≡ true
+    → map as_neighbour (inside regions p (take (i + 1) near)) ≡ map as_neighbour (inside regions p (take i near)) ++ as_neighbour (get_or near i d) ∷ []
+inner_takes regions p near i d in_near here =
+    ap (map as_neighbour) (filter_more (is_inside regions p) near i d in_near ∙ ap (λ (b : Bool). inside regions p (take i near) ++ cond b (get_or near i d ∷ []) []) here)
+    ∙ map-append as_neighbour (inside regions p (take i near)) (get_or near i d ∷ [])
 
-pub by_homes : (points : ℕ) (regions : List Region) (homes : List ℕ) (p : ℕ) (near : List Near) → AreHomes points regions homes → p < points → All (λ n. n.point < points) near
-    → filter (λ n. eqb (slice_index homes n.point) (slice_index homes p)) near ≡ inside regions p near
-by_homes points regions homes p near right there all =
-    filter_same (λ (n : Near). eqb (slice_index homes n.point) (slice_index homes p)) (is_inside regions p) near
-    (recursion_from_All (λ (n : Near). eqb (slice_index homes n.point) (slice_index homes p) ≡ is_inside regions p n) near
-    (λ k d in_near. ap (λ (h : ℕ). eqb h (slice_index homes p)) (right.each (get_or near k d).point (all k d in_near)) ∙ ap (eqb (home_of regions (get_or near k d).point)) (right.each p there)))
+pub inner_skips : (regions : List Region) (p : ℕ) (near : List Near) (i : ℕ) (d : Near) → i < length near → is_inside regions p (get_or near i d) ≡ false → inside regions p (take (i + 1) near) ≡ inside regions p (take i near)
+inner_skips regions p near i d in_near elsewhere =
+    filter_more (is_inside regions p) near i d in_near ∙ ap (λ (b : Bool). inside regions p (take i near) ++ cond b (get_or near i d ∷ []) []) elsewhere ∙ append-nil (inside regions p (take i near))
 
 -- ---- the sums over neighbours in other regions
 

@@ -42,7 +42,7 @@ pub fn project(
 {
     points_have_homes();
     let homes = homes(alloc, regions.as_slice(), network.points())?;
-    let mut points = Points::new(alloc);
+    let mut points = Points::with_capacity(alloc, network.points())?;
     for p in 0..network.points() {
         points.push(level_point(alloc, network, axis, regions, &homes, mids, p as u32)?)?;
     }
@@ -119,72 +119,84 @@ fn level_point(
 {
     let regions = regions.as_slice();
     let region = &regions[homes[p as usize]];
-    let near = variables(alloc, homes, p, network.near(p))?;
-    let (outer, outer_pull) = outer_constants(axis, regions, homes, mids, p, network.near(p));
+    let parts = near_parts(alloc, axis, regions, homes, mids, p, network.near(p))?;
     let (fixed, fixed_pull) = pin_constants(axis, region, network.pins(p));
     Ok(Point {
         lo: region.low(axis),
         hi: region.high(axis),
-        near,
-        anchor: outer + fixed,
-        anchored: outer_pull + fixed_pull,
+        near: parts.variables,
+        anchor: parts.anchor + fixed,
+        anchored: parts.pull + fixed_pull,
     })
 }
 
-/// The neighbours in a point's own region, as those of a system's point.
-fn variables(
-    alloc: Global,
-    homes: &[usize],
-    p: u32,
-    near: &[net_model::Near],
-) -> Result<NearList, Memory>
-    requires there { p < length homes.now }
-    requires points { All (λ n. n.point < length homes.now) near.now }
-    ensures { IfOk result (λ list. list ≡ map as_neighbour (filter (λ n. slice_index homes.now n.point == slice_index homes.now p) near.now)) }
-{
-    let home = homes[p as usize];
-    let mut list = NearList::new(alloc);
-    for entry in near {
-        if homes[entry.point as usize] == home {
-            list.push(Near {
-                point: entry.point,
-                weight: entry.weight,
-            })?;
-        }
-    }
-    Ok(list)
+/// What a point's neighbours give it.
+#[derive(Drop)]
+struct NearParts {
+    /// Those in its own region, as those of a system's point.
+    variables: NearList,
+    /// The weight of all others.
+    anchor: u64,
+    /// The sum of weight times place over all others.
+    pull: u128,
 }
 
-/// The weight of the neighbours in other regions, and the sum of weight times place.
-fn outer_constants(
+/// What a point's neighbours give it. Those of its own region are counted first, so that their list takes no more than it needs.
+fn near_parts(
+    alloc: Global,
     axis: Axis,
     regions: &[Region],
     homes: &[usize],
     mids: &[u64],
     p: u32,
     near: &[net_model::Near],
-) -> (u64, u128)
+) -> Result<NearParts, Memory>
     requires there { p < length mids.now }
     requires points { All (λ n. n.point < length mids.now) near.now }
     requires homes { AreHomes (length mids.now) regions.now homes.now }
     requires range { IsRange axis (region_of regions.now p) }
     requires light { sum_by (λ n. n.weight) near.now ≤ MOST_WEIGHT }
-    ensures anchor { result.0 ≡ sum_by (λ n. n.weight) (outside regions.now p near.now) }
-    ensures pull { result.1 ≡ near_pull axis regions.now mids.now (region_of regions.now p) (outside regions.now p near.now) }
+    ensures variables { IfOk result (λ parts. parts.variables ≡ map as_neighbour (inside regions.now p near.now)) }
+    ensures anchor { IfOk result (λ parts. parts.anchor ≡ sum_by (λ n. n.weight) (outside regions.now p near.now)) }
+    ensures pull { IfOk result (λ parts. parts.pull ≡ near_pull axis regions.now mids.now (region_of regions.now p) (outside regions.now p near.now)) }
 {
     let home = homes[p as usize];
     let region = &regions[home];
+    let mut variables = NearList::with_capacity(alloc, count_at(homes, home, near))?;
     let mut anchor = 0;
     let mut pull = 0;
     for entry in near {
         let other = homes[entry.point as usize];
-        if other != home {
+        if other == home {
+            variables.push(Near {
+                point: entry.point,
+                weight: entry.weight,
+            })?;
+        } else {
             let stand = clamped(axis, &regions[other], mids[entry.point as usize]);
             anchor += entry.weight;
             pull += u128::from(entry.weight) * u128::from(clamped(axis, region, stand));
         }
     }
-    (anchor, pull)
+    Ok(NearParts {
+        variables,
+        anchor,
+        pull,
+    })
+}
+
+/// How many neighbours have this home.
+fn count_at(homes: &[usize], home: usize, near: &[net_model::Near]) -> usize
+    requires { All (λ n. n.point < length homes.now) near.now }
+    ensures { result ≡ length (filter (λ n. slice_index homes.now n.point == home) near.now) }
+{
+    let mut count = 0;
+    for entry in near {
+        if homes[entry.point as usize] == home {
+            count += 1;
+        }
+    }
+    count
 }
 
 /// The weight of the fixed pins, and the sum of weight times place.

@@ -1,6 +1,6 @@
 //! Points with their neighbours, and lists of either.
 
-ghost use Rattle.std.specs.Prelude.{◌≡◌, ◌-◌, ◌^◌, ◌++◌, [], ◌∷◌, min, OnOk, OnErr};
+ghost use Rattle.std.specs.Prelude.{◌≡◌, ◌-◌, ◌^◌, ◌++◌, [], ◌∷◌, min, IfOk, OnOk, OnErr};
 ghost use Rattle.relax_system.specs.System.{near_weight, total_weight};
 
 use book_text::Memory;
@@ -46,6 +46,14 @@ impl NearList {
             items: Vec::new(alloc),
             weight: 0,
         }
+    }
+
+    /// No neighbour, and room for so many: pushes up to that many take no memory.
+    pub fn with_capacity(alloc: Global, capacity: usize) -> Result<NearList, Memory>
+        ensures { IfOk result (λ list. list ≡ []) }
+    {
+        let items = Vec::with_capacity(alloc, capacity)?;
+        Ok(NearList { items, weight: 0 })
     }
 
     /// Appends a neighbour. On want of memory the list is as before.
@@ -120,6 +128,14 @@ impl Points {
         Points {
             items: Vec::new(alloc),
         }
+    }
+
+    /// No point, and room for so many: pushes up to that many take no memory.
+    pub fn with_capacity(alloc: Global, capacity: usize) -> Result<Points, Memory>
+        ensures { IfOk result (λ points. points ≡ []) }
+    {
+        let items = Vec::with_capacity(alloc, capacity)?;
+        Ok(Points { items })
     }
 
     /// Appends a point. On want of memory the list is as before.

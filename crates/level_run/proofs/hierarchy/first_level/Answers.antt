@@ -1,5 +1,5 @@
 use Rattle.std.proofs.Common.{◌≡◌, ℕ, List, [], ◌∷◌, length, sym, ◌∙◌, ap, subst}
-use Rattle.std.proofs.Common.{w64, to_z, of_z, rules}
+use Rattle.std.proofs.Common.{w64, rules}
 use Rattle.std.proofs.lemmas.Int.{to_z-of_z}
 use Rattle.std.specs.List.{range_with_len}
 use Rattle.relax_system.specs.declared.valid.TheConstants.{MOST_COORDINATE}

@@ -1,4 +1,4 @@
-use Rattle.std.proofs.Common.{length, arith}
+use Rattle.std.proofs.Common.{arith}
 use Rattle.std.proofs.lemmas.List.{length-map}
 use Rattle.net_model.specs.Webs.{joint_of, joints_of}
 use Rattle.level_run.proofs.hierarchy.levels.Goals as goal
