@@ -5,7 +5,7 @@ use Rattle.std.specs.Int.{int_max, int_min, div_ceil}
 use Rattle.std.specs.List.{count_by}
 use Rattle.std.proofs.Math.Nat.{mul-le-mul_right}
 use Rattle.std.proofs.lemmas.Int.{ints, clamps}
-use Rattle.std.proofs.lemmas.Bool.{both_ways, not-true, cases_order, and_parts, and_from, false_from_ne_true}
+use Rattle.std.proofs.lemmas.Bool.{both_ways, not-true, cases_order, and_parts, false_from_ne_true}
 use Rattle.std.proofs.lemmas.Grind.{div_ceil_times}
 use Rattle.std.proofs.lemmas.List.{get_or-map, length-map}
 use Rattle.std.proofs.lemmas.List.Sums.{sum_by_more_le}
@@ -18,6 +18,7 @@ use Rattle.row_space.specs.Values.{segment_at}
 use Rattle.row_space.specs.Rectangles.{Rectangle, share_area, node_rectangle, segment_rectangle, blocks}
 use Rattle.row_space.specs.Runs.{segments_of}
 use Rattle.row_space.specs.Clear.{AreClear}
+use Rattle.row_space.proofs.Meeting.{Meet, shares, of_shares}
 use Rattle.row_legal.specs.declared.parts.Place.{Place}
 use Rattle.row_legal.specs.Cells.{CellsValue, count, sites_at}
 use Rattle.row_legal.specs.Places.{place_at}
@@ -25,49 +26,30 @@ use Rattle.row_legal.specs.Apart.{AreApart}
 use Rattle.row_legal.specs.Legal.{Spot, spot_at, LiesIn, IsLegalCell, IsLegal}
 use Rattle.row_legal.specs.Spots.{spot_of, spots_of, AreSitesOf}
 
-lt_of : (x y : ℤ) → int_lt x y ≡ true → x <ℤ y
-lt_of x y h = grind (arith, ints)
-
-of_lt : (x y : ℤ) → x <ℤ y → int_lt x y ≡ true
-of_lt x y h = grind (arith, ints)
-
 -- ---- rectangles
-
--- two rectangles have more than an edge in common
-record Meet (a b : Rectangle) : Type 0 where
-  columns : int_max a.left b.left <ℤ int_min a.right b.right
-  rows : int_max a.lower b.lower <ℤ int_min a.upper b.upper
-
-meet_of : (a b : Rectangle) → share_area a b ≡ true → Meet a b
-meet_of a b h =
-    let parts = and_parts (int_lt (int_max a.left b.left) (int_min a.right b.right)) (int_lt (int_max a.lower b.lower) (int_min a.upper b.upper)) h in
-    record { columns = lt_of _ _ parts.0; rows = lt_of _ _ parts.1 }
-
-of_meet : (a b : Rectangle) → Meet a b → share_area a b ≡ true
-of_meet a b m = and_from _ _ (of_lt _ _ m.columns) (of_lt _ _ m.rows)
 
 -- what shares no area with two rectangles shares none with parts of them
 parts_apart : (a b r q : Rectangle) → LiesIn a r → LiesIn b q → share_area r q ≡ false → share_area a b ≡ false
 parts_apart a b r q in_r in_q apart = false_from_ne_true (share_area a b) (λ holds.
-    let m = meet_of a b holds in
+    let m = shares a b holds in
     let whole : Meet r q = record { columns = omega (arith, ints, clamps, m.columns, in_r.left, in_r.right, in_q.left, in_q.right); rows = omega (arith, ints, clamps, m.rows, in_r.lower, in_r.upper, in_q.lower, in_q.upper) } in
-    both_ways (share_area r q) apart (of_meet r q whole))
+    both_ways (share_area r q) apart (of_shares r q whole))
 
 itself : (a : Rectangle) → LiesIn a a
 itself a = record { left = omega (arith, ints); right = omega (arith, ints); lower = omega (arith, ints); upper = omega (arith, ints) }
 
 -- side by side
 beside : (a b : Rectangle) → a.right ≤ℤ b.left → share_area a b ≡ false
-beside a b h = false_from_ne_true (share_area a b) (λ holds. let m = meet_of a b holds in absurd (omega (arith, ints, clamps, m.columns)))
+beside a b h = false_from_ne_true (share_area a b) (λ holds. let m = shares a b holds in absurd (omega (arith, ints, clamps, m.columns)))
 
 beside_too : (a b : Rectangle) → b.right ≤ℤ a.left → share_area a b ≡ false
-beside_too a b h = false_from_ne_true (share_area a b) (λ holds. let m = meet_of a b holds in absurd (omega (arith, ints, clamps, m.columns)))
+beside_too a b h = false_from_ne_true (share_area a b) (λ holds. let m = shares a b holds in absurd (omega (arith, ints, clamps, m.columns)))
 
 swapped : (a b : Rectangle) → share_area b a ≡ false → share_area a b ≡ false
 swapped a b apart = false_from_ne_true (share_area a b) (λ holds.
-    let m = meet_of a b holds in
+    let m = shares a b holds in
     let back : Meet b a = record { columns = omega (arith, ints, clamps, m.columns); rows = omega (arith, ints, clamps, m.rows) } in
-    both_ways (share_area b a) apart (of_meet b a back))
+    both_ways (share_area b a) apart (of_shares b a back))
 
 -- ---- sites
 

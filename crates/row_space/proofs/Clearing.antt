@@ -1,6 +1,6 @@
 -- The segments of a design are clear, and no two share area.
-use Rattle.std.proofs.Common.{◌≡◌, ◌⊎◌, ℕ, zero, suc, ◌+◌, ◌-◌, ◌<◌, ◌≤◌, Bool, true, false, eqb, List, [], ◌∷◌, length, get_or, refl, sym, ap, ◌∙◌, subst, inl, inr, arith, ℤ, pos, negsuc, ◌+ℤ◌, ◌*ℤ◌, ◌≤ℤ◌, ◌<ℤ◌}
-use Rattle.std.specs.Prelude.{not, ◌||◌, int_lt}
+use Rattle.std.proofs.Common.{◌≡◌, ◌⊎◌, ℕ, zero, suc, ◌+◌, ◌-◌, ◌<◌, ◌≤◌, Bool, true, false, eqb, List, [], ◌∷◌, length, get_or, refl, sym, ap, ◌∙◌, subst, inl, inr, arith, ℤ, pos, negsuc, ◌+ℤ◌, ◌*ℤ◌, ◌≤ℤ◌}
+use Rattle.std.specs.Prelude.{not, ◌||◌}
 use Rattle.std.specs.Int.{int_max, int_min}
 use Rattle.std.specs.List.{filter, flat_map, list_any, range_with_len}
 use Rattle.std.proofs.lemmas.Int.{ints, clamps, by_lt_z}
@@ -22,7 +22,7 @@ use Rattle.row_space.specs.Rectangles.{Rectangle, share_area, node_rectangle, si
 use Rattle.row_space.specs.Runs.{is_free, begins, run_len, segment_from, segments_in, segments_of}
 use Rattle.row_space.specs.Clear.{IsClear, AreClear}
 use Rattle.row_space.proofs.Spans.{Narrower, narrower}
-use Rattle.row_space.proofs.Meeting.{Meet, meet_of, of_meet}
+use Rattle.row_space.proofs.Meeting.{Meet, shares, meet_of, of_meet}
 
 unnegated : (b : Bool) → not b ≡ true → b ≡ false
 unnegated true h = sym h
@@ -264,13 +264,6 @@ columns design segment valid clear =
     let most = narrower design.pitch (clear.from + segment.sites) (subrow_at design.subrows clear.subrow).sites valid.pitch_sign clear.within in
     let sum = plus design.pitch clear.from segment.sites in
     record { left = omega (arith, ints, start.start, clear.left); right = omega (arith, ints, most.most, sum, clear.left); some = omega (arith, clear.some, clear.within) }
-
-shares : (a b : Rectangle) → share_area a b ≡ true → Meet a b
-shares a b holds =
-    let parts = and_parts (int_lt (int_max a.left b.left) (int_min a.right b.right)) (int_lt (int_max a.lower b.lower) (int_min a.upper b.upper)) holds in
-    record { columns = less _ _ parts.0; rows = less _ _ parts.1 } where
-      less : (x y : ℤ) → int_lt x y ≡ true → x <ℤ y
-      less x y h = grind (arith, ints)
 
 two_subrows : (design : DesignValue) (a b : Segment) → IsDesign design → (in_a : IsClear design a) → (in_b : IsClear design b) → in_a.subrow < in_b.subrow → share_area (segment_rectangle design a) (segment_rectangle design b) ≡ false
 two_subrows design a b valid in_a in_b less = no_by (share_area (segment_rectangle design a) (segment_rectangle design b)) (λ holds.

@@ -1,6 +1,7 @@
 mod Running
 mod Spans
-mod Meeting
+pub mod Comparing
+pub mod Meeting
 mod Tiering
 mod Marking
 mod Sweeping

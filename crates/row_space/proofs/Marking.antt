@@ -1,9 +1,9 @@
 -- The marks of a node, tier by tier.
-use Rattle.std.proofs.Common.{◌≡◌, ◌↔◌, ℕ, ◌+◌, ◌-◌, ◌<◌, ◌≤◌, min, Bool, true, false, cond, ltb, List, [], ◌∷◌, ◌++◌, length, refl, sym, ap, ◌∙◌, subst, inl, inr, arith, ℤ, pos, negsuc, ◌+ℤ◌, ◌*ℤ◌, ◌≤ℤ◌, ◌<ℤ◌}
+use Rattle.std.proofs.Common.{◌≡◌, ◌↔◌, ℕ, ◌+◌, ◌-◌, ◌<◌, ◌≤◌, min, Bool, true, false, cond, ltb, List, [], ◌∷◌, ◌++◌, length, refl, sym, ap, ◌∙◌, subst, inl, inr, arith, ◌⊎◌, ℤ, pos, negsuc, ◌+ℤ◌, ◌*ℤ◌, ◌≤ℤ◌, ◌<ℤ◌}
 use Rattle.std.proofs.lemmas.Int.{ints, clamps}
 use Rattle.std.proofs.lemmas.Bool.{cases_lt, cases_order, and_parts}
 use Rattle.std.proofs.lemmas.Bool.Decides.{nat_tests}
-use Rattle.std.proofs.lemmas.List.{append_assoc, length-append, get_or_append_left, get_or-append_right, get_or_push, length_push, get_or-append-add, get_or_default}
+use Rattle.std.proofs.lemmas.List.{append-nil, append_assoc, length-append, get_or_append_left, get_or-append_right, get_or_push, length_push, get_or-append-add, get_or_default}
 use Rattle.std.specs.declared.cmp.Ordering.{Ordering}
 use Rattle.std.specs.declared.cmp.Ordering.TheVariants.{Less, Equal}
 use Rattle.std.specs.Ordering.{nat_cmp, ordering_then, is_lt}
@@ -12,16 +12,18 @@ use Rattle.std.specs.List.Sorted.{IsPermutation, IsSorted}
 use Rattle.std.proofs.lemmas.Cmp.{nat_cmp_total, on_total, then_total}
 use Rattle.std.proofs.lemmas.List.Elements.{Contains-get_or}
 use Rattle.std.proofs.lemmas.List.Sorted.{sorted_far, ranks_by, All-permutation, Contains-permutation}
+use Rattle.book_design.specs.declared.parts.Subrow.{Subrow}
 use Rattle.book_design.specs.Points.{node_value_at}
 use Rattle.book_design.specs.Values.{NodeValue, DesignValue}
 use Rattle.book_design.specs.WellFormed.{subrow_at, IsDesign}
 use Rattle.row_space.specs.declared.marks.Mark.{Mark}
 use Rattle.row_space.specs.declared.tiers.Tier.{Tier}
 use Rattle.row_space.specs.Rectangles.{share_area, node_rectangle, blocks, sites_rectangle}
-use Rattle.row_space.specs.Forms.Tiers.{tier_at, AreTiers}
-use Rattle.row_space.specs.Forms.Marks.{mark_at, IsMark, HasMark, AreMarks, IsNoLater, AreSorted, IsMarkOf, AddsMarks, IsSolid, with_mark}
+use Rattle.row_space.specs.Forms.Tiers.{tier_at, AreTiers, IsPassed}
+use Rattle.row_space.specs.Forms.Marks.{mark_at, IsMark, HasMark, AreMarks, IsNoLater, AreSorted, IsMarkOf, AddsWhere, AddsMarks, AddsSubrow, MeetsRow, IsSolid, with_mark}
 use Rattle.row_space.proofs.Spans.{narrower}
 use Rattle.row_space.proofs.Meeting.{meet_of, of_meet}
+use Rattle.row_space.proofs.Tiering.{no_further_y}
 
 -- a mark behind
 has_more : (marks more : List Mark) (t k : ℕ) → HasMark marks t k → HasMark (marks ++ more) t k
@@ -57,130 +59,209 @@ has_behind marks more t k has =
       end = omega (arith, ap (λ (m : Mark). m.end) at, has.end);
     }
 
--- the marks of a node for the tiers from one up to another, behind those before
-pub record IsMarking (design : DesignValue) (node : NodeValue) (tiers : List Tier) (old marks : List Mark) (lowest at : ℕ) : Type 0 where
-  pub from : lowest ≤ at
-  pub within : at ≤ length tiers
-  pub added : List Mark
-  pub is : marks ≡ old ++ added
-  pub each : (i : ℕ) → i < length added → IsMarkOf design node (mark_at added i)
-  pub seen : (j k : ℕ) → lowest ≤ j → j < at → k < (subrow_at design.subrows (tier_at tiers j).subrow).sites
-      → blocks node (sites_rectangle design (subrow_at design.subrows (tier_at tiers j).subrow) k 1) ≡ true → HasMark added (tier_at tiers j).subrow k
+-- ---- a node, subrow by subrow
 
--- what a tier adds: nothing, or one mark
-pub tier_adds : List Mark → ℕ → ℕ → ℕ → List Mark
-tier_adds added t first end = cond (ltb first end) (added ++ record { subrow = t; first = first; end = end } ∷ []) added
+-- marks for some subrows, and then for others
+pub adds_then : (design : DesignValue) (node : NodeValue) (P Q R : ℕ → Type 0) (old marks new : List Mark) → AddsWhere design node P old marks → AddsWhere design node Q marks new
+    → ((number : ℕ) → R number → P number ⊎ Q number) → AddsWhere design node R old new
+adds_then design node P Q R old marks new a b split = record {
+  added = a.added ++ b.added;
+  is = b.is ∙ ap (λ ms. ms ++ b.added) a.is ∙ append_assoc old a.added b.added;
+  each = λ i lt. elim (cases_lt i (length a.added)) [
+    | inl first ↦ subst (λ (m : Mark). IsMarkOf design node m) (sym (get_or_append_left a.added b.added (mark_at [] 0) i first)) (a.each i first)
+    | inr later ↦ subst (λ (m : Mark). IsMarkOf design node m) (sym (get_or-append_right a.added b.added (length a.added) i (mark_at [] 0) refl later))
+        (b.each (i - length a.added) (omega (arith, lt, length-append a.added b.added)))
+  ];
+  all = λ number site is_one inside blocked. elim (split number is_one) [
+    | inl p ↦ has_more a.added b.added number site (a.all number site p inside blocked)
+    | inr q ↦ has_behind a.added b.added number site (b.all number site q inside blocked)
+  ];
+}
 
-with_added : (old added : List Mark) (t first end : ℕ) (marks : List Mark) → marks ≡ old ++ added → with_mark marks t first end ≡ old ++ tier_adds added t first end
-unfolding tier_adds
-with_added old added t first end marks is = by_test (ltb first end) where
-  by_test : (b : Bool) → cond b (marks ++ record { subrow = t; first = first; end = end } ∷ []) marks ≡ old ++ cond b (added ++ record { subrow = t; first = first; end = end } ∷ []) added
-  by_test true = ap (λ (ms : List Mark). ms ++ record { subrow = t; first = first; end = end } ∷ []) is ∙ append_assoc old added _
-  by_test false = is
+-- the node takes sites of no other subrows
+pub adds_same : (design : DesignValue) (node : NodeValue) (P R : ℕ → Type 0) (old new : List Mark) → AddsWhere design node P old new
+    → ((number site : ℕ) → R number → site < (subrow_at design.subrows number).sites → blocks node (sites_rectangle design (subrow_at design.subrows number) site 1) ≡ true → P number)
+    → AddsWhere design node R old new
+adds_same design node P R old new a narrow = record {
+  added = a.added;
+  is = a.is;
+  each = a.each;
+  all = λ number site is_one inside blocked. a.all number site (narrow number site is_one inside blocked) inside blocked;
+}
 
-each_added : (design : DesignValue) (node : NodeValue) (added : List Mark) (t first end : ℕ) → ((i : ℕ) → i < length added → IsMarkOf design node (mark_at added i))
-    → (first < end → IsMarkOf design node (record { subrow = t; first = first; end = end })) → (i : ℕ) → i < length (tier_adds added t first end) → IsMarkOf design node (mark_at (tier_adds added t first end) i)
-unfolding tier_adds
-each_added design node added t first end each own = by_test (ltb first end) refl where
-  m : Mark
-  m = record { subrow = t; first = first; end = end }
+pub adds_none : (design : DesignValue) (node : NodeValue) (R : ℕ → Type 0) (old : List Mark)
+    → ((number site : ℕ) → R number → site < (subrow_at design.subrows number).sites → blocks node (sites_rectangle design (subrow_at design.subrows number) site 1) ≡ true → ⊥)
+    → AddsWhere design node R old old
+adds_none design node R old none = record {
+  added = [];
+  is = sym (append-nil old);
+  each = λ i lt. absurd (omega arith);
+  all = λ number site is_one inside blocked. absurd (none number site is_one inside blocked);
+}
 
-  by_test : (b : Bool) → ltb first end ≡ b → (i : ℕ) → i < length (cond b (added ++ m ∷ []) added) → IsMarkOf design node (mark_at (cond b (added ++ m ∷ []) added) i)
-  by_test true test i lt = elim (cases_lt i (length added)) [
-    | inl old ↦ subst (λ (x : Mark). IsMarkOf design node x) (sym (get_or_append_left added (m ∷ []) (mark_at [] 0) i old)) (each i old)
-    | inr new ↦
-        let last : length added ≡ i = omega (arith, lt, length_push added m) in
-        subst (λ (x : Mark). IsMarkOf design node x) (sym (get_or_push added m (mark_at [] 0) i last)) (own (grind (arith, nat_tests)))
-  ]
-  by_test false test i lt = each i lt
-
-kept_added : (added : List Mark) (t first end : ℕ) (s k : ℕ) → HasMark added s k → HasMark (tier_adds added t first end) s k
-unfolding tier_adds
-kept_added added t first end s k has = by_test (ltb first end) where
-  by_test : (b : Bool) → HasMark (cond b (added ++ record { subrow = t; first = first; end = end } ∷ []) added) s k
-  by_test true = has_more added _ s k has
-  by_test false = has
-
-here_added : (added : List Mark) (t first end k : ℕ) → first ≤ k → k < end → HasMark (tier_adds added t first end) t k
-unfolding tier_adds
-here_added added t first end k low high =
-    let test : ltb first end ≡ true = grind (arith, nat_tests) in
-    subst (λ (b : Bool). HasMark (cond b (added ++ record { subrow = t; first = first; end = end } ∷ []) added) t k) (sym test) (has_last added (record { subrow = t; first = first; end = end }) k low high)
-
--- one tier more
-pub marking_more : (design : DesignValue) (node : NodeValue) (tiers : List Tier) (old marks new : List Mark) (lowest at t first to end : ℕ) → IsDesign design → AreTiers design.subrows tiers
-    → pos 0 <ℤ node.width → pos 0 <ℤ node.height → node.fixed ≡ true
-    → IsMarking design node tiers old marks lowest at → at < length tiers → (tier_at tiers at).subrow ≡ t → (tier_at tiers at).y <ℤ (node.y +ℤ node.height) → node.y <ℤ ((tier_at tiers at).y +ℤ design.row_height)
+-- one subrow
+pub adds_subrow : (design : DesignValue) (node : NodeValue) (marks new : List Mark) (t first to end : ℕ) → IsDesign design → IsSolid node → t < length design.subrows → MeetsRow design node t
     → ((k : ℕ) → (first ≤ k) ↔ (node.x <ℤ ((subrow_at design.subrows t).x +ℤ pos (k + 1) *ℤ design.pitch)))
     → ((k : ℕ) → (k < to) ↔ (((subrow_at design.subrows t).x +ℤ pos k *ℤ design.pitch) <ℤ (node.x +ℤ node.width)))
     → end ≡ min to (subrow_at design.subrows t).sites → new ≡ with_mark marks t first end
-    → IsMarking design node tiers old new lowest (at + 1)
-marking_more design node tiers old marks new lowest at t first to end valid tiers_are wide high fixed m more is under over before up_to ends added = record {
-  from = omega (arith, m.from);
-  within = omega arith;
-  added = tier_adds m.added t first end;
-  is = added ∙ with_added old m.added t first end marks m.is;
-  each = each_added design node m.added t first end m.each own;
-  seen = λ j k low lt inside blocked. elim (cases_lt j at) [
-    | inl past ↦ kept_added m.added t first end (tier_at tiers j).subrow k (m.seen j k low past inside blocked)
-    | inr new_one ↦
-        let here : at ≡ j = omega arith in
-        let row : (tier_at tiers j).subrow ≡ t = ap (λ i. (tier_at tiers i).subrow) (sym here) ∙ is in
-        let sites : k < (subrow_at design.subrows t).sites = subst (λ s. k < (subrow_at design.subrows s).sites) row inside in
-        let meet = meet_of node (sites_rectangle design (subrow_at design.subrows t) k 1) (subst (λ s. blocks node (sites_rectangle design (subrow_at design.subrows s) k 1) ≡ true) row blocked) in
-        let left : first ≤ k = (before k).1 (omega (arith, ints, clamps, meet.columns)) in
-        let right : k < to = (up_to k).1 (omega (arith, ints, clamps, meet.columns)) in
-        subst (λ s. HasMark (tier_adds m.added t first end) s k) (sym row) (here_added m.added t first end k left (omega (arith, right, sites)))
-  ];
-} where
-  y_is : (tier_at tiers at).y ≡ (subrow_at design.subrows t).y
-  y_is = (tiers_are.each at more).at_y ∙ ap (λ s. (subrow_at design.subrows s).y) is
+    → AddsSubrow design node t marks new
+adds_subrow design node marks new t first to end valid solid there row before up_to ends is = by_test (ltb first end) refl where
+  m : Mark
+  m = record { subrow = t; first = first; end = end }
 
-  taken : (k : ℕ) → first ≤ k → k < end → blocks node (sites_rectangle design (subrow_at design.subrows t) k 1) ≡ true
+  subrow : Subrow
+  subrow = subrow_at design.subrows t
+
+  taken : (k : ℕ) → first ≤ k → k < end → blocks node (sites_rectangle design subrow k 1) ≡ true
   taken k low lt =
       let left = (before k).0 low in
-      let right = (up_to k).0 (omega (arith, lt)) in
-      let one = narrower design.pitch k (k + 1) valid.pitch_sign (omega arith) in
+      let right = (up_to k).0 (omega (arith, lt, ends)) in
       let width : (pos (k + 1) *ℤ design.pitch) ≡ pos k *ℤ design.pitch +ℤ design.pitch = plus design.pitch k in
-      of_meet node (sites_rectangle design (subrow_at design.subrows t) k 1) fixed (record {
-        columns = omega (arith, ints, clamps, left, right, wide, width, valid.pitch_sign);
-        rows = omega (arith, ints, clamps, under, over, high, valid.height_sign, y_is);
+      of_meet node (sites_rectangle design subrow k 1) solid.fixed (record {
+        columns = omega (arith, ints, clamps, left, right, solid.wide, width, valid.pitch_sign);
+        rows = omega (arith, ints, clamps, row.below, row.above, solid.high, valid.height_sign);
       }) where
         plus : (p : ℤ) (k : ℕ) → (pos (k + 1) *ℤ p) ≡ pos k *ℤ p +ℤ p
         plus (pos p) k = omega (arith, ints)
         plus (negsuc p) k = omega (arith, ints)
 
-  own : first < end → IsMarkOf design node (record { subrow = t; first = first; end = end })
-  own some = record {
-    there = subst (λ s. s < length design.subrows) is (tiers_are.each at more).there;
-    some = some;
-    within = omega (arith, ends);
-    taken = taken;
-  }
+  -- each site that the node takes is the mark's
+  covered : (k : ℕ) → k < subrow.sites → blocks node (sites_rectangle design subrow k 1) ≡ true → (first ≤ k) × (k < end)
+  covered k inside blocked =
+      let meet = meet_of node (sites_rectangle design subrow k 1) blocked in
+      let left : first ≤ k = (before k).1 (omega (arith, ints, clamps, meet.columns)) in
+      let right : k < to = (up_to k).1 (omega (arith, ints, clamps, meet.columns)) in
+      (left, omega (arith, ends))
 
--- all tiers that a node's rows meet
-pub marking_all : (design : DesignValue) (node : NodeValue) (tiers : List Tier) (old marks : List Mark) (lowest at : ℕ) → AreTiers design.subrows tiers
-    → IsMarking design node tiers old marks lowest at
-    → ((k : ℕ) → k < lowest → ((tier_at tiers k).y +ℤ design.row_height) ≤ℤ node.y)
-    → (at < length tiers → (node.y +ℤ node.height) ≤ℤ (tier_at tiers at).y)
-    → AddsMarks design node old marks
-marking_all design node tiers old marks lowest at tiers_are m below above = record {
-  added = m.added;
-  is = m.is;
-  each = m.each;
-  all = λ t k there inside blocked.
-      let tier = tiers_are.all t there in
-      let y = (tiers_are.each tier.at tier.there).at_y ∙ ap (λ s. (subrow_at design.subrows s).y) tier.is in
-      let meet = meet_of node (sites_rectangle design (subrow_at design.subrows t) k 1) blocked in
-      elim (cases_lt tier.at lowest) [
-        | inl early ↦ absurd (omega (arith, ints, clamps, meet.rows, below tier.at early, y))
-        | inr late ↦ elim (cases_lt tier.at at) [
-          | inl seen ↦ subst (λ s. HasMark m.added s k) tier.is (m.seen tier.at k late seen (subst (λ s. k < (subrow_at design.subrows s).sites) (sym tier.is) inside)
-              (subst (λ s. blocks node (sites_rectangle design (subrow_at design.subrows s) k 1) ≡ true) (sym tier.is) blocked))
-          | inr past ↦ absurd (omega (arith, ints, clamps, meet.rows, above (omega (arith, tier.there)), tiers_are.order at tier.at past tier.there, y))
-        ]
-      ];
+  covered_at : (number k : ℕ) → number ≡ t → k < (subrow_at design.subrows number).sites → blocks node (sites_rectangle design (subrow_at design.subrows number) k 1) ≡ true → (first ≤ k) × (k < end)
+  covered_at number k same inside blocked = covered k (subst (λ s. k < (subrow_at design.subrows s).sites) same inside) (subst (λ s. blocks node (sites_rectangle design (subrow_at design.subrows s) k 1) ≡ true) same blocked)
+
+  one : first < end → (i : ℕ) → i < length (m ∷ []) → IsMarkOf design node (mark_at (m ∷ []) i)
+  one some i lt = let here : 0 ≡ i = omega arith in
+      subst (λ i. IsMarkOf design node (mark_at (m ∷ []) i)) here (record { there = there; some = some; within = omega (arith, ends); taken = taken })
+
+  by_test : (b : Bool) → ltb first end ≡ b → AddsSubrow design node t marks new
+  by_test true test = record {
+    added = m ∷ [];
+    is = is ∙ ap (λ (b : Bool). cond b (marks ++ m ∷ []) marks) test;
+    each = one (grind (arith, nat_tests));
+    all = λ number site same inside blocked.
+        let both = covered_at number site same inside blocked in
+        subst (λ n. HasMark (m ∷ []) n site) (sym same) (has_last [] m site both.0 both.1);
+  }
+  by_test false test = adds_empty (is ∙ ap (λ (b : Bool). cond b (marks ++ m ∷ []) marks) test) (grind (arith, nat_tests)) where
+    adds_empty : new ≡ marks → end ≤ first → AddsSubrow design node t marks new
+    adds_empty same none = subst (λ (ms : List Mark). AddsSubrow design node t marks ms) (sym same) (adds_none design node (λ number. number ≡ t) marks (λ number site is_one inside blocked.
+        let both = covered_at number site is_one inside blocked in absurd (omega (arith, both.0, both.1))))
+
+-- ---- tier after tier
+
+-- the subrow has a tier before a place
+pub record IsBefore (tiers : List Tier) (at number : ℕ) : Type 0 where
+  pub tier : ℕ
+  pub before : tier < at
+  pub is : (tier_at tiers tier).subrow ≡ number
+
+-- the marks of a node for the subrows of the tiers before a place, from which on no row lies below the node
+pub record IsMarking (design : DesignValue) (node : NodeValue) (tiers : List Tier) (old marks : List Mark) (at : ℕ) : Type 0 where
+  pub within : at ≤ length tiers
+  pub above : (i : ℕ) → at ≤ i → i < length tiers → node.y <ℤ ((tier_at tiers i).y +ℤ design.row_height)
+  pub adds : AddsWhere design node (IsBefore tiers at) old marks
+
+-- the node takes no site of a tier's subrow
+abbrev pub IsUntouched : DesignValue → NodeValue → Tier → Type 0
+IsUntouched design node tier = (k : ℕ) → k < (subrow_at design.subrows tier.subrow).sites → blocks node (sites_rectangle design (subrow_at design.subrows tier.subrow) k 1) ≡ true → ⊥
+
+untouched_at : (design : DesignValue) (node : NodeValue) (tier : Tier) (number k : ℕ) → IsUntouched design node tier → tier.subrow ≡ number → k < (subrow_at design.subrows number).sites
+    → blocks node (sites_rectangle design (subrow_at design.subrows number) k 1) ≡ true → ⊥
+untouched_at design node tier number k none is inside blocked = none k (subst (λ s. k < (subrow_at design.subrows s).sites) (sym is) inside) (subst (λ s. blocks node (sites_rectangle design (subrow_at design.subrows s) k 1) ≡ true) (sym is) blocked)
+
+-- tiers are passed over
+pub marking_on : (design : DesignValue) (node : NodeValue) (tiers : List Tier) (old marks : List Mark) (at next : ℕ) → IsMarking design node tiers old marks at → at ≤ next → next ≤ length tiers
+    → ((i : ℕ) → at ≤ i → i < next → IsUntouched design node (tier_at tiers i)) → IsMarking design node tiers old marks next
+marking_on design node tiers old marks at next m le within none = record {
+  within = within;
+  above = λ i from lt. m.above i (omega arith) lt;
+  adds = adds_same design node (IsBefore tiers at) (IsBefore tiers next) old marks m.adds (λ number k is_one inside blocked. elim (cases_lt is_one.tier at) [
+    | inl past ↦ record { tier = is_one.tier; before = past; is = is_one.is }
+    | inr new_one ↦ absurd (untouched_at design node (tier_at tiers is_one.tier) number k (none is_one.tier new_one is_one.before) is_one.is inside blocked)
+  ]);
 }
+
+-- the first ones lie below the node
+pub marking_first : (design : DesignValue) (node : NodeValue) (tiers : List Tier) (old : List Mark) (at : ℕ) → AreTiers design tiers → at ≤ length tiers
+    → ((i : ℕ) → i < at → ((tier_at tiers i).y +ℤ design.row_height) ≤ℤ node.y)
+    → ((i : ℕ) → at ≤ i → i < length tiers → node.y <ℤ ((tier_at tiers i).y +ℤ design.row_height))
+    → IsMarking design node tiers old old at
+marking_first design node tiers old at are within below above = record {
+  within = within;
+  above = above;
+  adds = adds_none design node (IsBefore tiers at) old (λ number k is_one inside blocked.
+      untouched_at design node (tier_at tiers is_one.tier) number k (under is_one.tier is_one.before) is_one.is inside blocked);
+} where
+  under : (i : ℕ) → i < at → IsUntouched design node (tier_at tiers i)
+  under i lt k inside blocked =
+      let tier = are.each i (omega (arith, lt, within)) in
+      let meet = meet_of node (sites_rectangle design (subrow_at design.subrows (tier_at tiers i).subrow) k 1) blocked in
+      absurd (omega (arith, ints, clamps, meet.rows, below i lt, tier.at_y))
+
+-- a tier's subrow is marked
+pub marking_more : (design : DesignValue) (node : NodeValue) (tiers : List Tier) (old marks new : List Mark) (at : ℕ) → IsMarking design node tiers old marks at → at < length tiers
+    → AddsSubrow design node (tier_at tiers at).subrow marks new → IsMarking design node tiers old new (at + 1)
+marking_more design node tiers old marks new at m more adds = record {
+  within = omega arith;
+  above = λ i from lt. m.above i (omega arith) lt;
+  adds = adds_then design node (IsBefore tiers at) (λ number. number ≡ (tier_at tiers at).subrow) (IsBefore tiers (at + 1)) old marks new m.adds adds (λ number is_one. elim (cases_lt is_one.tier at) [
+    | inl past ↦ inl (record { tier = is_one.tier; before = past; is = is_one.is })
+    | inr last ↦ let here : is_one.tier ≡ at = omega (arith, is_one.before) in inr (sym is_one.is ∙ ap (λ i. (tier_at tiers i).subrow) here)
+  ]);
+}
+
+-- all tiers that end left of the node
+pub marking_right_of : (design : DesignValue) (node : NodeValue) (tiers : List Tier) (old marks : List Mark) (at next : ℕ) → IsDesign design → AreTiers design tiers → IsMarking design node tiers old marks at → at ≤ next → next ≤ length tiers
+    → ((i : ℕ) → i < next → IsPassed (tier_at tiers at).y node.x (tier_at tiers i)) → IsMarking design node tiers old marks next
+marking_right_of design node tiers old marks at next valid are m le within passed = marking_on design node tiers old marks at next m le within left where
+  left : (i : ℕ) → at ≤ i → i < next → IsUntouched design node (tier_at tiers i)
+  left i from lt k inside blocked =
+      let subrow = subrow_at design.subrows (tier_at tiers i).subrow in
+      let tier = are.each i (omega (arith, lt, within)) in
+      let order = no_further_y (tier_at tiers at) (tier_at tiers i) (are.order at i from (omega (arith, lt, within))) in
+      let meet = meet_of node (sites_rectangle design subrow k 1) blocked in
+      let most = narrower design.pitch (k + 1) subrow.sites valid.pitch_sign (omega arith) in
+      elim (passed i lt) [
+        | inl lower ↦ absurd (omega (arith, ints, lower, order))
+        | inr same ↦ absurd (omega (arith, ints, clamps, meet.columns, same.1, tier.right, most.most))
+      ]
+
+-- all tiers of a row that begin right of the node
+pub marking_above : (design : DesignValue) (node : NodeValue) (tiers : List Tier) (old marks : List Mark) (at next : ℕ) → IsDesign design → AreTiers design tiers → IsMarking design node tiers old marks at → at ≤ next → next ≤ length tiers
+    → (node.x +ℤ node.width) ≤ℤ (tier_at tiers at).left → ((i : ℕ) → i < next → (tier_at tiers i).y ≤ℤ (tier_at tiers at).y) → IsMarking design node tiers old marks next
+marking_above design node tiers old marks at next valid are m le within out row = marking_on design node tiers old marks at next m le within right where
+  right : (i : ℕ) → at ≤ i → i < next → IsUntouched design node (tier_at tiers i)
+  right i from lt k inside blocked =
+      let subrow = subrow_at design.subrows (tier_at tiers i).subrow in
+      let tier = are.each i (omega (arith, lt, within)) in
+      let meet = meet_of node (sites_rectangle design subrow k 1) blocked in
+      let start = narrower design.pitch k k valid.pitch_sign (omega arith) in
+      elim (are.order at i from (omega (arith, lt, within))) [
+        | inl higher ↦ absurd (omega (arith, ints, higher, row i lt))
+        | inr same ↦ absurd (omega (arith, ints, clamps, meet.columns, same.1.0, tier.left, start.start, out))
+      ]
+
+-- all tiers
+pub marking_all : (design : DesignValue) (node : NodeValue) (tiers : List Tier) (old marks : List Mark) (at : ℕ) → AreTiers design tiers → IsMarking design node tiers old marks at
+    → (at < length tiers → (node.y +ℤ node.height) ≤ℤ (tier_at tiers at).y) → AddsMarks design node old marks
+marking_all design node tiers old marks at are m above = adds_same design node (IsBefore tiers at) (λ number. number < length design.subrows) old marks m.adds (λ number k there inside blocked.
+    let has = are.all number there (omega (arith, inside)) in
+    elim (cases_lt has.at at) [
+      | inl past ↦ record { tier = has.at; before = past; is = has.is }
+      | inr late ↦
+          let tier = are.each has.at has.there in
+          let y = tier.at_y ∙ ap (λ s. (subrow_at design.subrows s).y) has.is in
+          let order = no_further_y (tier_at tiers at) (tier_at tiers has.at) (are.order at has.at late has.there) in
+          let meet = meet_of node (sites_rectangle design (subrow_at design.subrows number) k 1) blocked in
+          absurd (omega (arith, ints, clamps, meet.rows, above (omega (arith, has.there)), order, y))
+    ])
 
 -- ---- node after node
 

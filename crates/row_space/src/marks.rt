@@ -5,8 +5,8 @@ ghost use Rattle.book_text.specs.declared.decimal.TheConstants.{MOST_MICRO};
 ghost use Rattle.book_files.specs.Ranges.{IsInRange};
 ghost use Rattle.book_design.specs.Values.{node_value};
 ghost use Rattle.book_design.specs.WellFormed.{IsGoodNode};
-ghost use Rattle.row_space.specs.Forms.Tiers.{AreTiers, AreInOrder, tier_at};
-ghost use Rattle.row_space.specs.Forms.Marks.{AreMarks, AreSorted, AddsMarks, IsSolid, with_mark};
+ghost use Rattle.row_space.specs.Forms.Tiers.{AreTiers, AreInOrder, IsPassed, tier_at};
+ghost use Rattle.row_space.specs.Forms.Marks.{AreMarks, AreSorted, AddsMarks, AddsSubrow, MeetsRow, IsSolid, with_mark};
 
 use crate::tiers::{Tier, tiers};
 use book_design::{Design, Node};
@@ -26,7 +26,7 @@ pub(crate) fn marks(alloc: Global, design: &Design<'_>) -> Result<Vec<Mark>, All
     ensures marks { IfOk result (λ marks. AreMarks design.now (length design.now.nodes) marks.items) }
     ensures sorted { IfOk result (λ marks. AreSorted marks.items) }
 {
-    let tiers = tiers(alloc, design.subrows())?;
+    let tiers = tiers(alloc, design)?;
     let mut marks = Vec::new(alloc);
     for node in design.nodes() {
         if is_solid(node) {
@@ -44,29 +44,51 @@ fn is_solid(node: &Node<'_>) -> bool
     node.fixed && node.width > 0 && node.height > 0
 }
 
-/// Adds what a node takes of each subrow whose rows it meets.
+/// Adds what a node takes of each subrow that it meets. In each row that its height meets it goes at once to the first
+/// subrow that ends right of its left edge, and from the first one right of it to the next row.
 fn mark_node(
     design: &Design<'_>,
     tiers: &[Tier],
     node: &Node<'_>,
     marks: &mut Vec<Mark>,
 ) -> Result<(), AllocError>
-    requires tiers { AreTiers design.now.subrows tiers.now }
+    requires tiers { AreTiers design.now tiers.now }
     requires node { IsGoodNode design.now.row_height (node_value node.now) }
     requires solid { IsSolid (node_value node.now) }
     ensures { OnOk result (AddsMarks design.now (node_value node.now) marks.old.items marks.new.items) }
 {
-    let lowest = first_above(tiers, node.y - design.row_height());
-    let mut at = lowest;
+    let mut at = first_above(tiers, node.y - design.row_height());
     'tiers: while at < tiers.len() && tiers[at].y < node.y + node.height {
-        let number = tiers[at].subrow;
-        let subrow = &design.subrows()[number];
-        let first = sites_before(node.x, subrow.x, design.pitch());
-        let end = sites_up_to(node.x + node.width, subrow.x, design.pitch());
-        add_mark(marks, number, first, end.min(u64::from(subrow.sites)))?;
-        at += 1;
+        let tier = tiers[at];
+        if tier.right <= node.x {
+            at = first_right_of(tiers, tier.y, node.x);
+        } else if node.x + node.width <= tier.left {
+            at = first_above(tiers, tier.y);
+        } else {
+            mark_subrow(design, tier.subrow, node, marks)?;
+            at += 1;
+        }
     }
     Ok(())
+}
+
+/// Adds what a node takes of a subrow whose row it meets.
+fn mark_subrow(
+    design: &Design<'_>,
+    number: usize,
+    node: &Node<'_>,
+    marks: &mut Vec<Mark>,
+) -> Result<(), AllocError>
+    requires there { number < length design.now.subrows }
+    requires node { IsGoodNode design.now.row_height (node_value node.now) }
+    requires solid { IsSolid (node_value node.now) }
+    requires row { MeetsRow design.now (node_value node.now) number }
+    ensures { OnOk result (AddsSubrow design.now (node_value node.now) number marks.old.items marks.new.items) }
+{
+    let subrow = &design.subrows()[number];
+    let first = sites_before(node.x, subrow.x, design.pitch());
+    let end = sites_up_to(node.x + node.width, subrow.x, design.pitch());
+    add_mark(marks, number, first, end.min(u64::from(subrow.sites)))
 }
 
 /// Adds a mark, where it has a site.
@@ -87,6 +109,16 @@ fn first_above(tiers: &[Tier], y: i64) -> usize
     ensures above { (i : ℕ) → result ≤ i → i < length tiers.now → y <ℤ (tier_at tiers.now i).y }
 {
     tiers.partition_point(|tier| tier.y <= y)
+}
+
+/// The first tier above this y, or at it and ending right of x.
+fn first_right_of(tiers: &[Tier], y: i64, x: i64) -> usize
+    requires { AreInOrder tiers.now }
+    ensures within { result ≤ length tiers.now }
+    ensures before { (i : ℕ) → i < result → IsPassed y x (tier_at tiers.now i) }
+    ensures behind { (i : ℕ) → result ≤ i → i < length tiers.now → IsPassed y x (tier_at tiers.now i) → ⊥ }
+{
+    tiers.partition_point(|tier| tier.y < y || tier.y == y && tier.right <= x)
 }
 
 /// How many whole sites of a subrow lie left of x.

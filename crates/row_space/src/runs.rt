@@ -15,6 +15,9 @@ use book_text::Memory;
 use std::alloc::Global;
 
 /// The segments of a design: the maximal runs of free sites, in the order of subrows, then from left to right.
+///
+/// The time is that of sorting the subrows and what the fixed nodes take of them, and of two searches among the subrows for
+/// each y of subrows that a fixed node meets.
 pub fn segments(alloc: Global, design: &Design<'_>) -> Result<Segments, Memory>
     ensures segments { IfOk result (λ segments. segments ≡ segments_of design.now) }
     ensures good { IfOk result (λ segments. AreGoodSegments segments.pitch segments.segments) }

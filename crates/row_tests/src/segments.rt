@@ -34,6 +34,22 @@ const TWO_ROWS: &[u8] = b"UCLA scl 1.0\nNumRows : 2\n\
     CoreRow Horizontal\nCoordinate : 0\nHeight : 10\nSitewidth : 2\n\
     SubrowOrigin : 0 NumSites : 10\nEnd\n";
 
+/// Sites of width 2, and many subrows of one y, in two rows and not from left to right: those of 0 from 0 to 6, 6 to 12, 12 to
+/// 18, 20 to 30, 30 to 38, 40 to 50, 50 to 60 and 62 to 64, those of 10 from 3 to 23, 24 to 32, 33 to 41 and 41 to 45. Two
+/// have no site, one of which lies within another.
+const MANY_SUBROWS: &[u8] = b"UCLA scl 1.0\nNumRows : 3\n\
+    CoreRow Horizontal\nCoordinate : 0\nHeight : 10\nSitewidth : 2\n\
+    SubrowOrigin : 30 NumSites : 4\nSubrowOrigin : 0 NumSites : 3\n\
+    SubrowOrigin : 12 NumSites : 3\nSubrowOrigin : 14 NumSites : 0\nEnd\n\
+    CoreRow Horizontal\nCoordinate : 0\nHeight : 10\nSitewidth : 2\n\
+    SubrowOrigin : 50 NumSites : 5\nSubrowOrigin : 20 NumSites : 5\n\
+    SubrowOrigin : 6 NumSites : 3\nSubrowOrigin : 62 NumSites : 1\n\
+    SubrowOrigin : 40 NumSites : 5\nEnd\n\
+    CoreRow Horizontal\nCoordinate : 10\nHeight : 10\nSitewidth : 2\n\
+    SubrowOrigin : 33 NumSites : 4\nSubrowOrigin : 3 NumSites : 10\n\
+    SubrowOrigin : 41 NumSites : 2\nSubrowOrigin : 70 NumSites : 0\n\
+    SubrowOrigin : 24 NumSites : 4\nEnd\n";
+
 /// A macro over three sites.
 const THREE_SITES: Case = Case {
     nodes: b"UCLA nodes 1.0\nNumNodes : 1\nNumTerminals : 0\nm 3 10\n",
@@ -46,7 +62,7 @@ const THREE_SITES: Case = Case {
 /// All sites of the one row.
 const WHOLE: &[(i64, i64, u32)] = &[(0, 0, 10)];
 
-const CASES: [Case; 13] = [
+const CASES: [Case; 14] = [
     THREE_SITES,
     // a movable node takes none
     Case {
@@ -129,6 +145,27 @@ const CASES: [Case; 13] = [
             (12_000_000, 10_000_000, 4),
             (0, 0, 1),
             (6_000_000, 0, 7),
+        ],
+    },
+    // several over several subrows of one y, from 3 to 11, 9 to 39, 58 to 62, 44 to 45, 64 to 70 and 32 to 34; and one that
+    // touches the uppermost row
+    Case {
+        nodes: b"UCLA nodes 1.0\nNumNodes : 7\nNumTerminals : 0\n\
+            a 8 10\nb 30 3\nc 4 20\nd 1 30\ne 6 5\nf 100 5\ng 2 2\n",
+        pl: b"UCLA pl 1.0\na 3 -2 : N /FIXED\nb 9 4 : N /FIXED\nc 58 0 : N /FIXED\n\
+            d 44 -5 : N /FIXED\ne 64 0 : N /FIXED\nf -20 20 : N /FIXED\ng 32 9 : N /FIXED\n",
+        scl: MANY_SUBROWS,
+        pitch: 2_000_000,
+        segments: &[
+            (0, 0, 1),
+            (50_000_000, 0, 4),
+            (62_000_000, 0, 1),
+            (40_000_000, 0, 2),
+            (46_000_000, 0, 2),
+            (35_000_000, 10_000_000, 3),
+            (3_000_000, 10_000_000, 10),
+            (41_000_000, 10_000_000, 1),
+            (24_000_000, 10_000_000, 4),
         ],
     },
 ];

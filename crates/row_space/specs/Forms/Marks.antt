@@ -1,5 +1,5 @@
 -- The sites that fixed nodes take, as the code keeps them.
-use Rattle.std.specs.Prelude.{◌≡◌, ◌⊎◌, ℕ, ◌<◌, ◌≤◌, true, nat_lt, if◌then◌else◌, List, [], ◌∷◌, ◌++◌, length, slice_index_or, pos, ◌<ℤ◌}
+use Rattle.std.specs.Prelude.{◌≡◌, ◌⊎◌, ℕ, ◌<◌, ◌≤◌, true, nat_lt, if◌then◌else◌, List, [], ◌∷◌, ◌++◌, length, slice_index_or, pos, ◌+ℤ◌, ◌<ℤ◌}
 use Rattle.book_design.specs.Values.{NodeValue, DesignValue}
 use Rattle.book_design.specs.Points.{node_value_at}
 use Rattle.book_design.specs.WellFormed.{subrow_at}
@@ -52,13 +52,26 @@ pub record IsMarkOf (design : DesignValue) (node : NodeValue) (mark : Mark) : Ty
   pub within : mark.end ≤ (subrow_at design.subrows mark.subrow).sites
   pub taken : (site : ℕ) → mark.first ≤ site → site < mark.end → blocks node (sites_rectangle design (subrow_at design.subrows mark.subrow) site 1) ≡ true
 
--- marks of a node come behind, one for each site that it takes
-pub record AddsMarks (design : DesignValue) (node : NodeValue) (old new : List Mark) : Type 0 where
+-- marks of a node come behind, one for each site that it takes of the subrows of these numbers
+pub record AddsWhere (design : DesignValue) (node : NodeValue) (is_one : ℕ → Type 0) (old new : List Mark) : Type 0 where
   pub added : List Mark
   pub is : new ≡ old ++ added
   pub each : (i : ℕ) → i < length added → IsMarkOf design node (mark_at added i)
-  pub all : (number site : ℕ) → number < length design.subrows → site < (subrow_at design.subrows number).sites
+  pub all : (number site : ℕ) → is_one number → site < (subrow_at design.subrows number).sites
       → blocks node (sites_rectangle design (subrow_at design.subrows number) site 1) ≡ true → HasMark added number site
+
+-- for each site that the node takes
+abbrev pub AddsMarks : DesignValue → NodeValue → List Mark → List Mark → Type 0
+AddsMarks design node old new = AddsWhere design node (λ number. number < length design.subrows) old new
+
+-- for each one of a subrow
+abbrev pub AddsSubrow : DesignValue → NodeValue → ℕ → List Mark → List Mark → Type 0
+AddsSubrow design node subrow old new = AddsWhere design node (λ number. number ≡ subrow) old new
+
+-- the node and the row of the subrow share heights
+pub record MeetsRow (design : DesignValue) (node : NodeValue) (number : ℕ) : Type 0 where
+  pub below : (subrow_at design.subrows number).y <ℤ (node.y +ℤ node.height)
+  pub above : node.y <ℤ ((subrow_at design.subrows number).y +ℤ design.row_height)
 
 abbrev pub with_mark : List Mark → ℕ → ℕ → ℕ → List Mark
 with_mark marks subrow first end = if nat_lt first end then marks ++ record { subrow = subrow; first = first; end = end } ∷ [] else marks

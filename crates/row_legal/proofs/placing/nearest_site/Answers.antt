@@ -2,7 +2,7 @@ use Rattle.std.proofs.Common.{◌≡◌, ◌/◌, ℕ, ℤ, pos, ◌+ℤ◌, ◌
 use Rattle.std.specs.Prelude.{unsigned_abs}
 use Rattle.std.proofs.lemmas.Int.{to_z-of_z}
 use Rattle.row_legal.specs.Places.{quotient}
-use Rattle.row_legal.proofs.Layering.{lt_of, not_lt}
+use Rattle.row_space.proofs.Comparing.{lt_of, not_lt}
 use Rattle.row_legal.proofs.Wishing.{offset_is, quotient_below, quotient_from}
 use Rattle.row_legal.proofs.placing.nearest_site.Goals as goal
 

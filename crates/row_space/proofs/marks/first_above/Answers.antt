@@ -1,6 +1,7 @@
 use Rattle.std.proofs.Common.{arith, rules}
 use Rattle.std.proofs.lemmas.List.Sorted.{IsPartitionPoint-from_clause}
-use Rattle.row_space.proofs.Tiering.{blank, is_below, parted, le_of, not_le}
+use Rattle.row_space.proofs.Tiering.{blank, is_below, parted}
+use Rattle.row_space.proofs.Comparing.{le_of, not_le}
 use Rattle.row_space.proofs.marks.first_above.Goals as goal
 
 pub returns-clause-below : goal.returns-clause-below

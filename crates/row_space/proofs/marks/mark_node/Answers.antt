@@ -1,26 +1,16 @@
-use Rattle.std.proofs.Common.{◌≡◌, ℕ, ◌<◌, List, [], length, ℤ, ◌+ℤ◌, ◌-ℤ◌, ◌≤ℤ◌, ◌<ℤ◌, w64, to_z, of_z, true, false, refl, ap, ◌∙◌, arith}
-use Rattle.std.specs.Prelude.{int_lt, min}
+use Rattle.std.proofs.Common.{◌≡◌, ℕ, ◌<◌, ◌≤◌, List, [], length, ℤ, ◌+ℤ◌, ◌-ℤ◌, ◌≤ℤ◌, ◌<ℤ◌, w64, to_z, of_z, true, false, sym, subst, inl, inr, arith}
+use Rattle.std.specs.Prelude.{int_lt, int_le}
 use Rattle.std.proofs.lemmas.Int.{ints}
+use Rattle.std.proofs.lemmas.Bool.{cases_lt}
 use Rattle.std.proofs.lemmas.List.Elements.{All-from_recursion}
-use Rattle.book_design.specs.declared.parts.Subrow.{Subrow}
 use Rattle.book_files.specs.Ranges.{IsInRange}
-use Rattle.book_design.specs.Values.{DesignValue, node_value}
-use Rattle.book_design.specs.WellFormed.{IsDesign, IsGoodSubrow, subrow_at}
+use Rattle.book_design.specs.Values.{NodeValue, DesignValue, node_value}
+use Rattle.book_design.specs.WellFormed.{IsDesign, IsGoodNode, IsGoodSubrow, subrow_at}
 use Rattle.row_space.specs.declared.tiers.Tier.{Tier}
-use Rattle.row_space.specs.Forms.Tiers.{tier_at, AreTiers}
-use Rattle.row_space.proofs.Marking.{marking_more, marking_all}
+use Rattle.row_space.specs.Forms.Tiers.{tier_at, AreTiers, IsPassed}
+use Rattle.row_space.proofs.Spans.{narrower}
+use Rattle.row_space.proofs.Marking.{marking_first, marking_more, marking_right_of, marking_above, marking_all}
 use Rattle.row_space.proofs.marks.mark_node.Goals as goal
-
-left_range : (design : DesignValue) (t : ℕ) → IsDesign design → t < length design.subrows → IsInRange (subrow_at design.subrows t).x
-left_range design t valid there = (All-from_recursion (IsGoodSubrow design.pitch design.row_height) design.subrows valid.subrows t (subrow_at [] 0) there).x
-
--- as the code reads it
-read_left : (design : DesignValue) (subrows : List Subrow) (t : ℕ) → IsDesign design → subrows ≡ design.subrows → t < length design.subrows
-    → to_z w64 (of_z w64 (subrow_at subrows t).x) ≡ (subrow_at design.subrows t).x
-read_left design subrows t valid is there =
-    let range = left_range design t valid there in
-    let fits : to_z w64 (of_z w64 (subrow_at design.subrows t).x) ≡ (subrow_at design.subrows t).x = omega (arith, ints, range.low, range.high) in
-    ap (λ ss. to_z w64 (of_z w64 (subrow_at ss t).x)) is ∙ fits
 
 lt_by : (a b x y : ℤ) → a ≡ x → b ≡ y → int_lt a b ≡ true → x <ℤ y
 lt_by a b x y p q h = let less : a <ℤ b = grind (arith, ints) in omega (arith, ints)
@@ -28,86 +18,152 @@ lt_by a b x y p q h = let less : a <ℤ b = grind (arith, ints) in omega (arith,
 not_lt_by : (a b x y : ℤ) → a ≡ x → b ≡ y → int_lt a b ≡ false → y ≤ℤ x
 not_lt_by a b x y p q h = let less : b ≤ℤ a = grind (arith, ints) in omega (arith, ints)
 
+le_by : (a b x y : ℤ) → a ≡ x → b ≡ y → int_le a b ≡ true → x ≤ℤ y
+le_by a b x y p q h = let less : a ≤ℤ b = grind (arith, ints) in omega (arith, ints)
+
+-- what the code reads of a tier
+record IsRead (tier : Tier) : Type 0 where
+  y : to_z w64 (of_z w64 tier.y) ≡ tier.y
+  left : to_z w64 (of_z w64 tier.left) ≡ tier.left
+  right : to_z w64 (of_z w64 tier.right) ≡ tier.right
+
+read_tier : (design : DesignValue) (tiers : List Tier) (k : ℕ) → IsDesign design → AreTiers design tiers → k < length tiers → IsRead (tier_at tiers k)
+read_tier design tiers k valid are lt =
+    let tier = are.each k lt in
+    let s = subrow_at design.subrows (tier_at tiers k).subrow in
+    let good = All-from_recursion (IsGoodSubrow design.pitch design.row_height) design.subrows valid.subrows (tier_at tiers k).subrow (subrow_at [] 0) tier.there in
+    let wide = narrower design.pitch s.sites s.sites valid.pitch_sign (omega arith) in
+    record {
+      y = omega (arith, ints, tier.at_y, good.y.low, good.y.high);
+      left = omega (arith, ints, tier.left, good.x.low, good.x.high);
+      right = omega (arith, ints, tier.right, good.x.low, good.right, wide.start);
+    }
+
+-- what the code computes of a node
+record IsSpanned (node : NodeValue) : Type 0 where
+  left : to_z w64 (of_z w64 node.x) ≡ node.x
+  right : to_z w64 (of_z w64 (to_z w64 (of_z w64 node.x) +ℤ to_z w64 (of_z w64 node.width))) ≡ node.x +ℤ node.width
+  top : to_z w64 (of_z w64 (to_z w64 (of_z w64 node.y) +ℤ to_z w64 (of_z w64 node.height))) ≡ node.y +ℤ node.height
+
+spanned : (height : ℤ) (node : NodeValue) → IsGoodNode height node → IsSpanned node
+spanned height node n = record {
+  left = omega (arith, ints, n.x.low, n.x.high);
+  right = omega (arith, ints, n.x.low, n.x.high, n.width.low, n.width.high, n.width_sign);
+  top = omega (arith, ints, n.y.low, n.y.high, n.height.low, n.height.high, n.height_sign);
+}
+
 edge_is : (y height read : ℤ) → IsInRange y → IsInRange height → read ≡ height → to_z w64 (of_z w64 (to_z w64 (of_z w64 y) -ℤ to_z w64 (of_z w64 read))) ≡ y -ℤ height
 edge_is y height read in_y in_height is = omega (arith, ints, in_y.low, in_y.high, in_height.low, in_height.high)
 
-tier_y : (design : DesignValue) (tiers : List Tier) (k : ℕ) → IsDesign design → AreTiers design.subrows tiers → k < length tiers → to_z w64 (of_z w64 (tier_at tiers k).y) ≡ (tier_at tiers k).y
-tier_y design tiers k valid are lt =
-    let tier = are.each k lt in
-    let good = (All-from_recursion (IsGoodSubrow design.pitch design.row_height) design.subrows valid.subrows (tier_at tiers k).subrow (subrow_at [] 0) tier.there).y in
-    omega (arith, ints, tier.at_y, good.low, good.high)
+lowest_below : (tiers : List Tier) (height y edge : ℤ) (lowest : ℕ) → edge ≡ y -ℤ height → ((k : ℕ) → k < lowest → (tier_at tiers k).y ≤ℤ edge) → (k : ℕ) → k < lowest → ((tier_at tiers k).y +ℤ height) ≤ℤ y
+lowest_below tiers height y edge lowest is below k lt = omega (arith, ints, below k lt, is)
 
-pub bounds-subrows-number : goal.bounds-subrows-number
-bounds-subrows-number c = omega (arith, (c.requires.tiers.each c.tiers.at c.tiers-test.true).there, ap length c.subrows.ensures.subrows)
+rest_above : (tiers : List Tier) (height y edge : ℤ) (lowest : ℕ) → edge ≡ y -ℤ height → ((k : ℕ) → lowest ≤ k → k < length tiers → edge <ℤ (tier_at tiers k).y) → (k : ℕ) → lowest ≤ k → k < length tiers → y <ℤ ((tier_at tiers k).y +ℤ height)
+rest_above tiers height y edge lowest is above k from lt = omega (arith, ints, above k from lt, is)
 
-pub sites_before-first-requires-clause-left : goal.sites_before-first-requires-clause-left
-sites_before-first-requires-clause-left c =
-    let t = (tier_at c.args.tiers.now c.tiers.at).subrow in
-    let there = (c.requires.tiers.each c.tiers.at c.tiers-test.true).there in
-    rw (read_left c.args.design.now c.subrows.result.now t c.subrows.ensures.valid c.subrows.ensures.subrows there) (left_range c.args.design.now t c.subrows.ensures.valid there)
+-- tiers up to another place are passed, by numbers as the code computes them
+passed_by : (tiers : List Tier) (a b y x : ℤ) (next : ℕ) → a ≡ y → b ≡ x → ((i : ℕ) → i < next → IsPassed a b (tier_at tiers i)) → (i : ℕ) → i < next → IsPassed y x (tier_at tiers i)
+passed_by tiers a b y x next p q h i lt = subst (λ (z : ℤ). IsPassed z x (tier_at tiers i)) p (subst (λ (z : ℤ). IsPassed a z (tier_at tiers i)) q (h i lt))
 
-pub sites_up_to-end-requires-clause-left : goal.sites_up_to-end-requires-clause-left
-sites_up_to-end-requires-clause-left c =
-    let t = (tier_at c.args.tiers.now c.tiers.at).subrow in
-    let there = (c.requires.tiers.each c.tiers.at c.tiers-test.true).there in
-    rw (read_left c.args.design.now c.subrows.result.now t c.subrows.ensures.valid c.subrows.ensures.subrows there) (left_range c.args.design.now t c.subrows.ensures.valid there)
+below_by : (tiers : List Tier) (a y : ℤ) (next : ℕ) → a ≡ y → ((i : ℕ) → i < next → (tier_at tiers i).y ≤ℤ a) → (i : ℕ) → i < next → (tier_at tiers i).y ≤ℤ y
+below_by tiers a y next p h i lt = subst (λ (z : ℤ). (tier_at tiers i).y ≤ℤ z) p (h i lt)
 
-pub sites_up_to-end-requires-clause-x_low : goal.sites_up_to-end-requires-clause-x_low
-sites_up_to-end-requires-clause-x_low c =
+-- a search goes on
+goes_right : (tiers : List Tier) (a b x : ℤ) (at next : ℕ) → a ≡ (tier_at tiers at).y → b ≡ x → ((i : ℕ) → next ≤ i → i < length tiers → IsPassed a b (tier_at tiers i) → ⊥) → at < length tiers → (tier_at tiers at).right ≤ℤ x → at < next
+goes_right tiers a b x at next p q behind lt left = elim (cases_lt at next) [
+  | inl less ↦ less
+  | inr more ↦ absurd (behind at more lt (inr (sym p, subst (λ (z : ℤ). (tier_at tiers at).right ≤ℤ z) (sym q) left)))
+]
+
+goes_up : (tiers : List Tier) (a : ℤ) (at next : ℕ) → a ≡ (tier_at tiers at).y → ((i : ℕ) → next ≤ i → i < length tiers → a <ℤ (tier_at tiers i).y) → at < length tiers → at < next
+goes_up tiers a at next p above lt = elim (cases_lt at next) [
+  | inl less ↦ less
+  | inr more ↦ absurd (omega (arith, ints, above at more lt, p))
+]
+
+pub tiers-init : goal.tiers-init
+tiers-init c =
+    let design = c.args.design.now in
     let n = c.requires.node in
-    omega (arith, ints, n.x.low, n.x.high, n.width.low, n.width.high, n.width_sign)
+    let valid = c.row_height.ensures.valid in
+    let edge = edge_is (node_value c.args.node.now).y design.row_height c.row_height.result n.y valid.row_height c.row_height.ensures.height in
+    marking_first design (node_value c.args.node.now) c.args.tiers.now c.args.marks.now.items c.first_above-at.result c.requires.tiers c.first_above-at.ensures.within
+    (lowest_below c.args.tiers.now design.row_height (node_value c.args.node.now).y _ c.first_above-at.result edge c.first_above-at.ensures.below)
+    (rest_above c.args.tiers.now design.row_height (node_value c.args.node.now).y _ c.first_above-at.result edge c.first_above-at.ensures.above)
 
-pub sites_up_to-end-requires-clause-x_high : goal.sites_up_to-end-requires-clause-x_high
-sites_up_to-end-requires-clause-x_high c =
-    let n = c.requires.node in
-    omega (arith, ints, n.x.low, n.x.high, n.width.low, n.width.high, n.width_sign)
+pub tiers-smaller-then-tier-node : goal.tiers-smaller-then-tier-node
+tiers-smaller-then-tier-node c =
+    let node = node_value c.args.node.now in
+    let tiers = c.args.tiers.now in
+    let read = read_tier c.args.design.now tiers c.tiers.at c.row_height.ensures.valid c.requires.tiers c.tiers-test.true in
+    let span = spanned c.args.design.now.row_height node c.requires.node in
+    let left = le_by _ _ (tier_at tiers c.tiers.at).right node.x read.right span.left c.if-tier-node.true in
+    let more = goes_right tiers _ _ node.x c.tiers.at c.first_right_of-at.result read.y span.left c.first_right_of-at.ensures.behind c.tiers-test.true left in
+    omega (arith, more, c.tiers-test.true)
+
+pub tiers-preserved-then-tier-node : goal.tiers-preserved-then-tier-node
+tiers-preserved-then-tier-node c =
+    let design = c.args.design.now in
+    let node = node_value c.args.node.now in
+    let tiers = c.args.tiers.now in
+    let valid = c.row_height.ensures.valid in
+    let read = read_tier design tiers c.tiers.at valid c.requires.tiers c.tiers-test.true in
+    let span = spanned design.row_height node c.requires.node in
+    let left = le_by _ _ (tier_at tiers c.tiers.at).right node.x read.right span.left c.if-tier-node.true in
+    let more = goes_right tiers _ _ node.x c.tiers.at c.first_right_of-at.result read.y span.left c.first_right_of-at.ensures.behind c.tiers-test.true left in
+    marking_right_of design node tiers c.args.marks.now.items c.tiers.marks.items c.tiers.at c.first_right_of-at.result valid c.requires.tiers c.tiers.invariant (omega (arith, more)) c.first_right_of-at.ensures.within
+    (passed_by tiers _ _ (tier_at tiers c.tiers.at).y node.x c.first_right_of-at.result read.y span.left c.first_right_of-at.ensures.before)
+
+pub tiers-smaller-then-node-tier : goal.tiers-smaller-then-node-tier
+tiers-smaller-then-node-tier c =
+    let tiers = c.args.tiers.now in
+    let read = read_tier c.args.design.now tiers c.tiers.at c.row_height.ensures.valid c.requires.tiers c.tiers-test.true in
+    let more = goes_up tiers _ c.tiers.at c.first_above-at-then-node-tier.result read.y c.first_above-at-then-node-tier.ensures.above c.tiers-test.true in
+    omega (arith, more, c.tiers-test.true)
+
+pub tiers-preserved-then-node-tier : goal.tiers-preserved-then-node-tier
+tiers-preserved-then-node-tier c =
+    let design = c.args.design.now in
+    let node = node_value c.args.node.now in
+    let tiers = c.args.tiers.now in
+    let valid = c.row_height.ensures.valid in
+    let read = read_tier design tiers c.tiers.at valid c.requires.tiers c.tiers-test.true in
+    let span = spanned design.row_height node c.requires.node in
+    let out = le_by _ _ (node.x +ℤ node.width) (tier_at tiers c.tiers.at).left span.right read.left c.if-node-tier.true in
+    let more = goes_up tiers _ c.tiers.at c.first_above-at-then-node-tier.result read.y c.first_above-at-then-node-tier.ensures.above c.tiers-test.true in
+    marking_above design node tiers c.args.marks.now.items c.tiers.marks.items c.tiers.at c.first_above-at-then-node-tier.result valid c.requires.tiers c.tiers.invariant (omega (arith, more)) c.first_above-at-then-node-tier.ensures.within out
+    (below_by tiers _ (tier_at tiers c.tiers.at).y c.first_above-at-then-node-tier.result read.y c.first_above-at-then-node-tier.ensures.below)
+
+pub mark_subrow-requires-clause-there : goal.mark_subrow-requires-clause-there
+mark_subrow-requires-clause-there c = (c.requires.tiers.each c.tiers.at c.tiers-test.true).there
+
+pub mark_subrow-requires-clause-row : goal.mark_subrow-requires-clause-row
+mark_subrow-requires-clause-row c =
+    let design = c.args.design.now in
+    let node = node_value c.args.node.now in
+    let tiers = c.args.tiers.now in
+    let tier = c.requires.tiers.each c.tiers.at c.tiers-test.true in
+    let read = read_tier design tiers c.tiers.at c.row_height.ensures.valid c.requires.tiers c.tiers-test.true in
+    let span = spanned design.row_height node c.requires.node in
+    let under = lt_by _ _ (tier_at tiers c.tiers.at).y (node.y +ℤ node.height) read.y span.top c.if-tiers-at.true in
+    record {
+      below = omega (arith, ints, under, tier.at_y);
+      above = omega (arith, ints, c.tiers.invariant.above c.tiers.at (omega arith) c.tiers-test.true, tier.at_y);
+    }
 
 pub tiers-preserved : goal.tiers-preserved
 tiers-preserved c =
-    let design = c.args.design.now in
-    let node = node_value c.args.node.now in
-    let n = c.requires.node in
-    let valid = c.subrows.ensures.valid in
-    let t = (tier_at c.args.tiers.now c.tiers.at).subrow in
-    let there = (c.requires.tiers.each c.tiers.at c.tiers-test.true).there in
-    let left = read_left design c.subrows.result.now t valid c.subrows.ensures.subrows there in
-    let x : to_z w64 (of_z w64 node.x) ≡ node.x = omega (arith, ints, n.x.low, n.x.high) in
-    let right : to_z w64 (of_z w64 (to_z w64 (of_z w64 node.x) +ℤ to_z w64 (of_z w64 node.width))) ≡ node.x +ℤ node.width = omega (arith, ints, n.x.low, n.x.high, n.width.low, n.width.high, n.width_sign) in
-    let pitch : to_z w64 (of_z w64 c.pitch.result) ≡ design.pitch = omega (arith, ints, c.pitch.ensures.pitch, valid.pitch.low, valid.pitch.high) in
-    let pitch_2 : to_z w64 (of_z w64 c.pitch-in-tiers.result) ≡ design.pitch = omega (arith, ints, c.pitch-in-tiers.ensures.pitch, valid.pitch.low, valid.pitch.high) in
-    let below = rw (x, left, pitch) at c.sites_before-first.ensures in
-    let over = rw (left, pitch_2, right) at c.sites_up_to-end.ensures in
-    let y = tier_y design c.args.tiers.now c.tiers.at valid c.requires.tiers c.tiers-test.true in
-    let top : to_z w64 (of_z w64 (to_z w64 (of_z w64 node.y) +ℤ to_z w64 (of_z w64 node.height))) ≡ node.y +ℤ node.height = omega (arith, ints, n.y.low, n.y.high, n.height.low, n.height.high, n.height_sign) in
-    let under = lt_by _ _ (tier_at c.args.tiers.now c.tiers.at).y (node.y +ℤ node.height) y top c.if-tiers-at.true in
-    let edge = edge_is node.y design.row_height c.row_height.result n.y valid.row_height c.row_height.ensures.height in
-    let past = rw edge at (c.first_above-lowest.ensures.above c.tiers.at c.tiers.invariant.from c.tiers-test.true) in
-    let ends : c.min.result ≡ min c.sites_up_to-end.result (subrow_at design.subrows t).sites = c.min.ensures ∙ ap (min c.sites_up_to-end.result) (c.from.ensures ∙ ap (λ ss. (subrow_at ss t).sites) c.subrows.ensures.subrows) in
-    marking_more design node c.args.tiers.now c.args.marks.now.items c.tiers.marks.items c.add_mark.new.marks.items c.first_above-lowest.result c.tiers.at t c.sites_before-first.result c.sites_up_to-end.result c.min.result
-    valid c.requires.tiers c.requires.solid.wide c.requires.solid.high c.requires.solid.fixed c.tiers.invariant c.tiers-test.true refl under (omega (arith, ints, past)) below over ends c.in_ok-add_mark.ensures
-
-lowest_below : (tiers : List Tier) (height y edge : ℤ) (lowest : ℕ) → edge ≡ y -ℤ height → ((k : ℕ) → k < lowest → (tier_at tiers k).y ≤ℤ edge) → (k : ℕ) → k < lowest → ((tier_at tiers k).y +ℤ height) ≤ℤ y
-lowest_below tiers height y edge lowest is below k lt = omega (arith, ints, below k lt, is)
+    marking_more c.args.design.now (node_value c.args.node.now) c.args.tiers.now c.args.marks.now.items c.tiers.marks.items c.mark_subrow.new.marks.items c.tiers.at c.tiers.invariant c.tiers-test.true c.in_ok-mark_subrow.ensures
 
 pub returns-else-tiers-at : goal.returns-else-tiers-at
 returns-else-tiers-at c =
     let design = c.args.design.now in
     let node = node_value c.args.node.now in
-    let n = c.requires.node in
-    let valid = c.row_height.ensures.valid in
-    let edge = edge_is node.y design.row_height c.row_height.result n.y valid.row_height c.row_height.ensures.height in
-    let y = tier_y design c.args.tiers.now c.tiers.at valid c.requires.tiers c.tiers-test.true in
-    let top : to_z w64 (of_z w64 (to_z w64 (of_z w64 node.y) +ℤ to_z w64 (of_z w64 node.height))) ≡ node.y +ℤ node.height = omega (arith, ints, n.y.low, n.y.high, n.height.low, n.height.high, n.height_sign) in
-    let out = not_lt_by _ _ (tier_at c.args.tiers.now c.tiers.at).y (node.y +ℤ node.height) y top c.if-tiers-at.false in
-    marking_all design node c.args.tiers.now c.args.marks.now.items c.tiers.marks.items c.first_above-lowest.result c.tiers.at c.requires.tiers c.tiers.invariant
-    (lowest_below c.args.tiers.now design.row_height node.y _ c.first_above-lowest.result edge c.first_above-lowest.ensures.below) (λ lt. out)
+    let y = (read_tier design c.args.tiers.now c.tiers.at c.row_height.ensures.valid c.requires.tiers c.tiers-test.true).y in
+    let span = spanned design.row_height node c.requires.node in
+    let out = not_lt_by _ _ (tier_at c.args.tiers.now c.tiers.at).y (node.y +ℤ node.height) y span.top c.if-tiers-at.false in
+    marking_all design node c.args.tiers.now c.args.marks.now.items c.tiers.marks.items c.tiers.at c.requires.tiers c.tiers.invariant (λ lt. out)
 
 pub returns-after-tiers : goal.returns-after-tiers
 returns-after-tiers c =
-    let design = c.args.design.now in
-    let node = node_value c.args.node.now in
-    let n = c.requires.node in
-    let valid = c.row_height.ensures.valid in
-    let edge = edge_is node.y design.row_height c.row_height.result n.y valid.row_height c.row_height.ensures.height in
-    marking_all design node c.args.tiers.now c.args.marks.now.items c.tiers.marks.items c.first_above-lowest.result c.tiers.at c.requires.tiers c.tiers.invariant
-    (lowest_below c.args.tiers.now design.row_height node.y _ c.first_above-lowest.result edge c.first_above-lowest.ensures.below) (λ lt. absurd (omega (arith, c.tiers-test.false)))
+    marking_all c.args.design.now (node_value c.args.node.now) c.args.tiers.now c.args.marks.now.items c.tiers.marks.items c.tiers.at c.requires.tiers c.tiers.invariant (λ lt. absurd (omega (arith, c.tiers-test.false)))
