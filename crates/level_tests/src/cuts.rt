@@ -21,7 +21,7 @@ type Cut = (
     &'static [Row],
 );
 
-const CUTS: [Cut; 9] = [
+const CUTS: &[Cut] = &[
     // two points with the same mid: the one of the lower number comes first
     (
         (10_000_000, 10_000_000),
@@ -154,7 +154,7 @@ fn regions_are_cut(rt: HostRuntime) -> Result<(), Fail> {
         assert!(rt; is_light(areas));
         are(
             &rt,
-            &cut_often(rt.alloc(), ends, areas, xs, ys, times)?,
+            &cut_often(rt.alloc(), *ends, areas, xs, ys, *times)?,
             rows,
         );
     }

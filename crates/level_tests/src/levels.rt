@@ -1,15 +1,14 @@
 //! Designs whose levels were worked by hand, and one whose levels a script found that shares no code.
 
-ghost use Rattle.std.specs.Prelude.{◌≤◌, ◌<◌, length};
-
 use crate::cuts::{Row, are};
 use crate::designs::{Texts, made};
 use area_cut::whole;
 use book_outer::OpenGate;
-use level_run::{Axis, MOST_LEVELS, Options, Solve, gap, levels, project};
+use level_run::{Axis, Levels, MOST_LEVELS, Options, Solve, gap, levels, project};
 use pad_reach::reach;
 use relax_crew::MOST_SEATS;
-use relax_system::{Near, System};
+use relax_system::Near;
+use std::process::Abort;
 use std::test::Fail;
 
 /// A row of 10 by 10 units.
@@ -89,7 +88,7 @@ type Vectors = (&'static [u64], &'static [u64], &'static [u64]);
 /// levels.
 type Case = (Texts<'static>, u32, &'static [Row], Vectors, Vectors, u64);
 
-const CASES: [Case; 5] = [
+const CASES: &[Case] = &[
     (
         ONE,
         4,
@@ -293,7 +292,7 @@ const CASES: [Case; 5] = [
 ];
 
 /// The seats that each design is solved with.
-const SEATS: [usize; 3] = [1, 2, 7];
+const SEATS: &[usize] = &[1, 2, 7];
 
 /// Whether these are the solve's vectors and mids.
 fn is_solved(solve: &Solve, vectors: Vectors) -> bool {
@@ -302,78 +301,85 @@ fn is_solved(solve: &Solve, vectors: Vectors) -> bool {
         && solve.mid.as_slice() == vectors.2
 }
 
+/// Whether the last of so many levels, and their gap, are the case's.
+fn are_levels(rt: &impl Abort, levels: &Levels, case: &Case) {
+    let (_, count, rows, x, y, widest) = case;
+    let all = levels.as_slice();
+    assert!(rt; all.len() == *count as usize + 1);
+    let last = &all[*count as usize];
+    are(rt, &last.regions, rows);
+    assert!(rt; is_solved(&last.x, *x) && is_solved(&last.y, *y));
+    assert_eq!(rt; gap(levels), *widest);
+}
+
 #[test]
 fn designs_have_levels(rt: HostRuntime) -> Result<(), Fail> {
-    for (texts, count, rows, x, y, widest) in CASES {
-        let network = made(&rt, rt.alloc(), &texts).expect(&rt, "a network");
-        let Ok(reach) = reach(rt.alloc(), &network) else {
-            panic!(rt; "a point has no chain");
-        };
-        assert!(rt; count <= MOST_LEVELS);
+    for case in CASES {
+        let network = made(&rt, rt.alloc(), &case.0).expect(&rt, "a network");
+        let reach = reach(rt.alloc(), &network)?;
         for seats in SEATS {
-            assert!(rt; 1 <= seats && seats <= MOST_SEATS);
+            assert!(rt; case.1 <= MOST_LEVELS && 1 <= *seats && *seats <= MOST_SEATS);
             let options = Options {
-                levels: count,
-                seats,
+                levels: case.1,
+                seats: *seats,
             };
             let levels = levels(&rt, rt.alloc(), &network, &reach, options, &OpenGate)?;
-            let all = levels.as_slice();
-            assert_eq!(rt; all.len(), count as usize + 1);
-            let last = &all[count as usize];
-            are(&rt, &last.regions, rows);
-            assert!(rt; is_solved(&last.x, x), "x with {seats} seats");
-            assert!(rt; is_solved(&last.y, y), "y with {seats} seats");
-            assert_eq!(rt; gap(&levels), widest);
+            are_levels(&rt, &levels, case);
         }
     }
     Ok(())
 }
 
-/// The upper end of the boxes, and of each point the anchor and the anchored sum.
-type Constants = (Axis, u64, [(u64, u128); 2]);
+/// The upper end of the boxes, and of each point the anchor, the anchored sum, and the neighbours.
+type Constants = (Axis, u64, &'static [(u64, u128, &'static [Near])]);
 
-const CONSTANTS: [Constants; 2] = [
+const A_TO_B: &[Near] = &[Near {
+    point: 1,
+    weight: 2_940,
+}];
+
+const B_TO_A: &[Near] = &[Near {
+    point: 0,
+    weight: 2_940,
+}];
+
+const CONSTANTS: &[Constants] = &[
     // the pad is moved to the lower end
     (
         Axis::X,
         1_000_020_000_000,
-        [(1_260, 1_260_007_980_000_000), (420, 420_007_980_000_000)],
+        &[
+            (1_260, 1_260_007_980_000_000, A_TO_B),
+            (420, 420_007_980_000_000, B_TO_A),
+        ],
     ),
     (
         Axis::Y,
         1_000_010_000_000,
-        [(1_260, 1_260_008_190_000_000), (420, 420_003_990_000_000)],
+        &[
+            (1_260, 1_260_008_190_000_000, A_TO_B),
+            (420, 420_003_990_000_000, B_TO_A),
+        ],
     ),
 ];
-
-/// Whether the point of that number is in the box, has the constants, and is joined to the other.
-fn is_same(system: &System, i: usize, high: u64, constants: (u64, u128), other: u32) -> bool
-    requires { i < length system.now }
-{
-    let point = system.point(i);
-    let near = [Near {
-        point: other,
-        weight: 2_940,
-    }];
-    (point.lo, point.hi) == (1_000_000_000_000, high)
-        && (point.anchor, point.anchored) == constants
-        && point.near.as_slice() == near.as_slice()
-}
 
 #[test]
 fn the_core_has_a_system_on_each_axis(rt: HostRuntime) -> Result<(), Fail> {
     let network = made(&rt, rt.alloc(), &BLOCK).expect(&rt, "a network");
-    let Ok(_) = reach(rt.alloc(), &network) else {
-        panic!(rt; "a point has no chain");
-    };
+    reach(rt.alloc(), &network)?;
     let core = (1_000_000_000_000, 1_000_020_000_000, 1_000_010_000_000);
     let regions = whole(rt.alloc(), network.points(), core.0, core.1, core.0, core.2)?;
     let mids = vec![in rt.alloc(); 0; network.points()]?;
-    for (axis, high, [first, second]) in CONSTANTS {
-        let system = project(rt.alloc(), &network, axis, &regions, &mids)?;
-        assert_eq!(rt; system.points(), 2);
-        assert!(rt; is_same(&system, 0, high, first, 1));
-        assert!(rt; is_same(&system, 1, high, second, 0));
+    for (axis, high, points) in CONSTANTS {
+        let system = project(rt.alloc(), &network, *axis, &regions, &mids)?;
+        assert_eq!(rt; system.points(), points.len());
+        for (i, (anchor, anchored, near)) in points.iter().enumerate() {
+            assert!(rt; i < system.points());
+            let point = system.point(i);
+            assert_eq!(rt; (point.lo, point.hi), (core.0, *high));
+            assert_eq!(rt; (point.anchor, point.anchored), (*anchor, *anchored));
+            assert!(rt; point.near.as_slice() == *near);
+        }
     }
     Ok(())
 }

@@ -2,7 +2,7 @@
 
 use crate::designs::{Texts, made};
 use book_design::Core;
-use net_model::{FixedPin, Near, NetError, NetFault, one_network, terms_are_pairs};
+use net_model::{FixedPin, Near, NetError, NetFault};
 use pad_reach::{ReachError, reach};
 use std::alloc::{AllocError, Global};
 
@@ -38,127 +38,166 @@ const C: Texts = Texts {
         Sitewidth : 1\nSubrowOrigin : 0 NumSites : 10\nEnd\n",
 };
 
+/// A point of design B, its neighbours, its fixed pins, and its area.
+const B_POINTS: &[(u32, &[Near], &[FixedPin], u64)] = &[
+    (
+        0,
+        &[Near {
+            point: 1,
+            weight: 420,
+        }],
+        &[
+            FixedPin {
+                weight: 840,
+                x: 0,
+                y: 18_500_000,
+            },
+            FixedPin {
+                weight: 420,
+                x: 14_000_000,
+                y: 12_000_000,
+            },
+        ],
+        3,
+    ),
+    (
+        1,
+        &[Near {
+            point: 0,
+            weight: 420,
+        }],
+        &[
+            FixedPin {
+                weight: 420,
+                x: 14_000_000,
+                y: 12_000_000,
+            },
+            FixedPin {
+                weight: 1680,
+                x: 20_000_000,
+                y: 30_500_000,
+            },
+        ],
+        5,
+    ),
+];
+
+const B_CORE: Core = Core {
+    xlo: 0,
+    xhi: 20_000_000,
+    ylo: 0,
+    yhi: 36_000_000,
+};
+
 #[test]
 fn the_network_of_a_design_is_made(rt: HostRuntime) {
-    one_network();
-    terms_are_pairs();
     let found = made(&rt, rt.alloc(), &B).expect(&rt, "design B");
-    assert_eq!(rt; found.points(), 2);
-    let (u, v) = (0, 1);
-    let u_to_v = Near {
-        point: v,
-        weight: 420,
-    };
-    let v_to_u = Near {
-        point: u,
-        weight: 420,
-    };
-    assert_eq!(rt; found.near(u), [u_to_v].as_slice());
-    assert_eq!(rt; found.near(v), [v_to_u].as_slice());
-    let i = FixedPin {
-        weight: 840,
-        x: 0,
-        y: 18_500_000,
-    };
-    let m = FixedPin {
-        weight: 420,
-        x: 14_000_000,
-        y: 12_000_000,
-    };
-    let q = FixedPin {
-        weight: 1680,
-        x: 20_000_000,
-        y: 30_500_000,
-    };
-    assert_eq!(rt; found.pins(u), [i, m].as_slice());
-    assert_eq!(rt; found.pins(v), [m, q].as_slice());
-    assert_eq!(rt; (found.area(u), found.area(v)), (3, 5));
-    let core = Core {
-        xlo: 0,
-        xhi: 20_000_000,
-        ylo: 0,
-        yhi: 36_000_000,
-    };
-    assert!(rt; found.core() == core);
+    assert_eq!(rt; found.points(), B_POINTS.len());
+    for (i, near, pins, area) in B_POINTS {
+        assert!(rt; (*i as usize) < found.points());
+        assert!(rt; found.near(*i) == *near && found.pins(*i) == *pins);
+        assert_eq!(rt; found.area(*i), *area);
+    }
+    assert!(rt; found.core() == B_CORE);
 }
 
-/// Nets and weights over the three cells and the pad, and what cell a then has of cell b and of the
-/// pad.
+/// Nets and weights over the three cells and the pad; what cell a then has of the others, and of the pad; and the first cell
+/// without a chain.
 type Joined = (
     &'static [u8],
     &'static [u8],
-    Option<u64>,
-    Option<(u64, i64)>,
+    &'static [Near],
+    &'static [FixedPin],
+    u32,
 );
 
-const JOINED: [Joined; 5] = [
+const JOINED: &[Joined] = &[
     // a pair counts once, though a node has two pins
     (
         b"UCLA nets 1.0\nNumNets : 1\nNumPins : 3\nNetDegree : 3\na B\nb B\na B\n",
         b"UCLA wts 1.0\n",
-        Some(840),
-        None,
+        &[Near {
+            point: 1,
+            weight: 840,
+        }],
+        &[],
+        0,
     ),
     // two nets of one pair
     (
         b"UCLA nets 1.0\nNumNets : 2\nNumPins : 5\nNetDegree : 2\na B\nb B\n\
             NetDegree : 3\nb B\na B\nc B\n",
         b"UCLA wts 1.0\n",
-        Some(1260),
-        None,
+        &[
+            Near {
+                point: 1,
+                weight: 1260,
+            },
+            Near {
+                point: 2,
+                weight: 420,
+            },
+        ],
+        &[],
+        0,
     ),
     // the first pin of a fixed node decides
     (
         b"UCLA nets 1.0\nNumNets : 1\nNumPins : 3\nNetDegree : 3\nl B : 1 0\na B\nl B : 2 0\n",
         b"UCLA wts 1.0\n",
-        None,
-        Some((840, 5_000_000)),
+        &[],
+        &[FixedPin {
+            weight: 840,
+            x: 5_000_000,
+            y: 5_000_000,
+        }],
+        1,
     ),
     // a net of weight 0 joins nothing
     (
         b"UCLA nets 1.0\nNumNets : 1\nNumPins : 3\nNetDegree : 3 n\nl B\na B\nb B\n",
         b"UCLA wts 1.0\nn 0\n",
-        None,
-        None,
+        &[],
+        &[],
+        0,
     ),
     // nor does one of a single node
     (
         b"UCLA nets 1.0\nNumNets : 1\nNumPins : 2\nNetDegree : 2 n\na B\na B\n",
         b"UCLA wts 1.0\nn 9\n",
-        None,
-        None,
+        &[],
+        &[],
+        0,
+    ),
+    // a cell leads another one to the pad
+    (
+        b"UCLA nets 1.0\nNumNets : 2\nNumPins : 4\nNetDegree : 2\nl B\na B\nNetDegree : 2\na B\nb B\n",
+        b"UCLA wts 1.0\n",
+        &[Near {
+            point: 1,
+            weight: 840,
+        }],
+        &[FixedPin {
+            weight: 840,
+            x: 4_000_000,
+            y: 5_000_000,
+        }],
+        2,
     ),
 ];
 
 #[test]
 fn the_nets_of_two_nodes_are_summed(rt: HostRuntime) {
-    for (nets, wts, near, pin) in &JOINED {
+    for (nets, wts, near, pins, loose) in JOINED {
         let found = made(&rt, rt.alloc(), &Texts { nets, wts, ..C }).expect(&rt, "three cells");
         assert_eq!(rt; found.points(), 3);
-        let b = found
-            .near(0)
-            .iter()
-            .find(|near| near.point == 1)
-            .map(|near| near.weight);
-        assert_eq!(rt; b, *near, "with {nets:?}");
-        let l = found.pins(0).first().map(|pin| (pin.weight, pin.x));
-        assert_eq!(rt; l, *pin, "with {nets:?}");
+        assert!(rt;
+            found.near(0) == *near && found.pins(0) == *pins,
+            "with {nets:?}"
+        );
+        let found = reach(rt.alloc(), &found).err();
+        assert_eq!(rt; found, Some(ReachError::Unanchored(*loose)));
     }
-}
-
-#[test]
-fn a_network_is_a_web(rt: HostRuntime) {
-    let nets = b"UCLA nets 1.0\nNumNets : 2\nNumPins : 4\nNetDegree : 2\nl B\na B\n\
-        NetDegree : 2\na B\nb B\n";
-    let found = made(&rt, rt.alloc(), &Texts { nets, ..C }).expect(&rt, "three cells");
-    assert_eq!(rt;
-        reach(rt.alloc(), &found).err(),
-        Some(ReachError::Unanchored(2))
-    );
-    let found = made(&rt, rt.alloc(), &B).expect(&rt, "design B");
-    let steps = reach(rt.alloc(), &found).expect(&rt, "pads");
-    assert_eq!(rt; found.points(), 2);
-    assert_eq!(rt; (steps.toward(0), steps.distance(1)), (None, 0));
 }
 
 /// So many cells.
@@ -185,14 +224,17 @@ fn crowded_nets(alloc: Global, count: u16, last: u16) -> Result<String, AllocErr
     Ok(text)
 }
 
+/// How many nodes the last net has, and the fault.
+const CROWDED: &[(u16, NetFault)] = &[
+    (1, NetFault::TooManyEdges(16_875_264)),
+    (513, NetFault::NetTooWide(129)),
+];
+
 #[test]
 fn a_wide_net_goes_before_too_many_pairs(rt: HostRuntime) {
-    for (last, fault) in [
-        (1, NetFault::TooManyEdges(16_875_264)),
-        (513, NetFault::NetTooWide(129)),
-    ] {
-        let nodes = cells(rt.alloc(), 513).expect(&rt, "memory");
-        let nets = crowded_nets(rt.alloc(), 129, last).expect(&rt, "memory");
+    let nodes = cells(rt.alloc(), 513).expect(&rt, "memory");
+    for (last, fault) in CROWDED {
+        let nets = crowded_nets(rt.alloc(), 129, *last).expect(&rt, "memory");
         let texts = Texts {
             nodes: nodes.as_bytes(),
             nets: nets.as_bytes(),
@@ -200,7 +242,7 @@ fn a_wide_net_goes_before_too_many_pairs(rt: HostRuntime) {
         };
         let pl = b"UCLA pl 1.0\n";
         let found = made(&rt, rt.alloc(), &Texts { pl, ..texts }).err();
-        assert_eq!(rt; found, Some(NetError::Fault(fault)));
+        assert_eq!(rt; found, Some(NetError::Fault(*fault)));
     }
 }
 
@@ -214,18 +256,21 @@ fn repeated_nets(alloc: Global, count: u16) -> Result<String, AllocError> {
     Ok(text)
 }
 
+/// How many nets there are, and the fault, if there is one.
+const REPEATED: &[(u16, Option<NetError>)] = &[
+    (19_973, None),
+    (19_974, Some(NetError::Fault(NetFault::Heavy(1)))),
+];
+
 #[test]
 fn a_heavy_point_is_named(rt: HostRuntime) {
-    for (count, fault) in [
-        (19_973, None),
-        (19_974, Some(NetError::Fault(NetFault::Heavy(1)))),
-    ] {
-        let nets = repeated_nets(rt.alloc(), count).expect(&rt, "memory");
+    for (count, fault) in REPEATED {
+        let nets = repeated_nets(rt.alloc(), *count).expect(&rt, "memory");
         let texts = Texts {
             nets: nets.as_bytes(),
             wts: b"UCLA wts 1.0\nn 65535\n",
             ..C
         };
-        assert_eq!(rt; made(&rt, rt.alloc(), &texts).err(), fault);
+        assert_eq!(rt; made(&rt, rt.alloc(), &texts).err(), *fault);
     }
 }

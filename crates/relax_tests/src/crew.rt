@@ -7,6 +7,7 @@ use crate::samples::{PAIR, Row, chain_of, system_of};
 use book_outer::{Gate, OpenGate};
 use book_text::Memory;
 use relax_crew::{MOST_SEATS, greatest, least};
+use relax_system::{System, greatest_plain, least_plain};
 use std::alloc::Global;
 use std::process::Abort;
 use std::sync::atomic::{AtomicBool, AtomicU64, Ordering};
@@ -16,45 +17,69 @@ use std::thread::Threads;
 /// How often a seat looks for the other one.
 const TURNS: u64 = 50_000_000;
 
-/// Four points in the box from 0 to 1 that aren't joined, each with the constant 1.
-const RISING: [Row; 4] = [
-    (0, 1, &[], 1, 1),
-    (0, 1, &[], 1, 1),
-    (0, 1, &[], 1, 1),
-    (0, 1, &[], 1, 1),
-];
+/// The way on which the seats move the words.
+#[derive(Clone, Copy)]
+enum Way {
+    Up,
+    Down,
+}
 
-/// The same with the constant 0.
-const FALLING: [Row; 4] = [
-    (0, 1, &[], 1, 0),
-    (0, 1, &[], 1, 0),
-    (0, 1, &[], 1, 0),
-    (0, 1, &[], 1, 0),
-];
+/// What the seats have seen in the end, and how many words they moved.
+fn solve<R: Threads + Sync, G: Gate>(
+    rt: &R,
+    alloc: Global,
+    system: &System,
+    way: Way,
+    seats: usize,
+    gate: &G,
+) -> Result<(Vec<u64>, u64), Memory>
+    requires some { 0 < length system.now }
+    requires seats { IsCrewSize seats }
+{
+    match way {
+        Way::Up => {
+            let low = least(rt, alloc, system, seats, gate)?;
+            Ok((low.seat.seen().to_vec(alloc)?, low.raises))
+        }
+        Way::Down => {
+            let high = greatest(rt, alloc, system, seats, gate)?;
+            Ok((high.seat.seen().to_vec(alloc)?, high.lowers))
+        }
+    }
+}
 
-/// Four points in the box from 0 to 9. The two in the middle are joined; the second of them has nearly the weight of its
-/// constant 9 alone, and the others have no pull.
-const PULLED: [Row; 4] = [
-    (0, 9, &[], 1, 0),
-    (0, 9, &[(2, 1)], 1, 4),
-    (0, 9, &[(1, 1)], 100, 900),
-    (0, 9, &[], 1, 0),
-];
+/// The pair from below and from above, by so many seats. The one move is made by whichever seat.
+const PAIRED: &[(Way, &[u64])] = &[(Way::Up, &[0, 1]), (Way::Down, &[2, 3])];
 
-/// The pair from below and from above. The one raise and the one lower are made by whichever seat.
 #[test]
 fn any_seats_solve_the_pair(rt: HostRuntime) -> Result<(), Fail> {
     let system = system_of(&rt, rt.alloc(), &PAIR)?;
     assert!(rt; 0 < system.points());
-    for seats in [1, 2, 3, 64] {
-        assert!(rt; 1 <= seats && seats <= MOST_SEATS);
-        let low = least(&rt, rt.alloc(), &system, seats, &OpenGate)?;
-        assert_eq!(rt; low.seat.seen(), [0, 1].as_slice());
-        assert_eq!(rt; low.raises, 1);
-        let high = greatest(&rt, rt.alloc(), &system, seats, &OpenGate)?;
-        assert_eq!(rt; high.seat.seen(), [2, 3].as_slice());
-        assert_eq!(rt; high.lowers, 1);
+    for (way, want) in PAIRED {
+        for seats in [1, 2, 3, 64] {
+            assert!(rt; 1 <= seats && seats <= MOST_SEATS);
+            let (seen, moves) = solve(&rt, rt.alloc(), &system, *way, seats, &OpenGate)?;
+            assert_eq!(rt; (seen.as_slice(), moves), (*want, 1));
+        }
     }
+    Ok(())
+}
+
+/// A chain on which each of two seats makes many moves that the other one sees.
+#[test]
+fn two_seats_solve_a_chain(rt: HostRuntime) -> Result<(), Fail> {
+    let system = chain_of(&rt, rt.alloc(), 40, 1000)?;
+    assert!(rt; 0 < system.points());
+    let (low, _) = solve(&rt, rt.alloc(), &system, Way::Up, 2, &OpenGate)?;
+    assert_eq!(rt;
+        low.as_slice(),
+        least_plain(rt.alloc(), &system)?.as_slice()
+    );
+    let (high, _) = solve(&rt, rt.alloc(), &system, Way::Down, 2, &OpenGate)?;
+    assert_eq!(rt;
+        high.as_slice(),
+        greatest_plain(rt.alloc(), &system)?.as_slice()
+    );
     Ok(())
 }
 
@@ -62,25 +87,6 @@ fn any_seats_solve_the_pair(rt: HostRuntime) -> Result<(), Fail> {
 #[derive(Drop)]
 struct Watch {
     words: Vec<AtomicU64>,
-}
-
-impl Watch {
-    fn over(alloc: Global, points: usize) -> Result<Watch, Memory> {
-        let mut words = Vec::new(alloc);
-        for _ in 0..points {
-            words.push(AtomicU64::new(0))?;
-        }
-        Ok(Watch { words })
-    }
-
-    /// Each point has been passed once, by its owner.
-    fn shows(&self, rt: &impl Abort, owners: &[u8]) {
-        assert!(rt; self.words.len() == owners.len());
-        for i in 0..owners.len() {
-            let word = self.words[i].load(Ordering::SeqCst);
-            assert_eq!(rt; word, 100 + u64::from(owners[i]));
-        }
-    }
 }
 
 impl Gate for Watch {
@@ -92,19 +98,21 @@ impl Gate for Watch {
 }
 
 /// The seats of each point of a chain, and how many seats there are.
-const DEALS: [(&[u8], usize); 6] = [
+const DEALS: &[(&[u8], usize)] = &[
     (&[0, 0, 0], 1),
     (&[0, 0, 1, 1], 2),
     (&[0, 1, 2, 2], 3),
     (&[0, 0, 1, 1, 2, 2, 2], 3),
     (&[2, 4], 5),
+    (&[0, 1, 2, 3, 4, 5, 6], 7),
     (&[15, 31, 47, 63], 64),
 ];
 
-/// The seats pass the points of a chain, each its own range.
+/// The seats pass the points of a chain once, each its own range.
 fn deals<R: Threads + Abort + Sync>(
     rt: &R,
     alloc: Global,
+    way: Way,
     owners: &[u8],
     seats: usize,
 ) -> Result<(), Memory>
@@ -113,22 +121,32 @@ fn deals<R: Threads + Abort + Sync>(
     assert!(rt; owners.len() <= 7);
     let system = chain_of(rt, alloc, owners.len() as u32, 9)?;
     assert!(rt; 0 < system.points());
-    let rising = Watch::over(alloc, system.points())?;
-    least(rt, alloc, &system, seats, &rising)?;
-    rising.shows(rt, owners);
-    let falling = Watch::over(alloc, system.points())?;
-    greatest(rt, alloc, &system, seats, &falling)?;
-    falling.shows(rt, owners);
+    let mut words = Vec::new(alloc);
+    for _ in owners {
+        words.push(AtomicU64::new(0))?;
+    }
+    let watch = Watch { words };
+    solve(rt, alloc, &system, way, seats, &watch)?;
+    for (word, owner) in watch.words.iter().zip(owners) {
+        assert_eq!(rt; word.load(Ordering::SeqCst), 100 + u64::from(*owner));
+    }
     Ok(())
 }
 
 #[test]
 fn each_point_is_passed_once_by_its_seat(rt: HostRuntime) -> Result<(), Fail> {
-    for (owners, seats) in DEALS {
-        assert!(rt; 1 <= seats && seats <= MOST_SEATS);
-        deals(&rt, rt.alloc(), owners, seats)?;
+    for way in [Way::Up, Way::Down] {
+        for (owners, seats) in DEALS {
+            assert!(rt; 1 <= *seats && *seats <= MOST_SEATS);
+            deals(&rt, rt.alloc(), way, owners, *seats)?;
+        }
     }
     Ok(())
+}
+
+/// Whether the flag is seen within so many looks.
+fn comes(flag: &AtomicBool, looks: u64) -> bool {
+    (0..looks).any(|_| flag.load(Ordering::SeqCst))
 }
 
 /// Whether a seat has passed the gate, and whether it saw at its first pass that the other one had.
@@ -148,11 +166,10 @@ impl Flags {
 
     /// At the first pass it looks for the other seat, for so many turns at most.
     fn pass(&self, other: &Flags) {
-        if self.passed.swap(true, Ordering::SeqCst) {
-            return;
+        if !self.passed.swap(true, Ordering::SeqCst) {
+            self.met
+                .store(comes(&other.passed, TURNS), Ordering::SeqCst);
         }
-        let met = (0..TURNS).any(|_| other.passed.load(Ordering::SeqCst));
-        self.met.store(met, Ordering::SeqCst);
     }
 }
 
@@ -173,60 +190,57 @@ impl Gate for Meeting {
     }
 }
 
-impl Meeting {
-    fn new() -> Meeting {
-        Meeting {
-            first: Flags::new(),
-            second: Flags::new(),
-        }
-    }
+/// Four points in the box from 0 to 1 that aren't joined, with the constant 1, and the same with the constant 0. Each is
+/// moved once, and each of the two seats has moved the first one of its range before they meet.
+const MET: &[(Way, &[Row], &[u64])] = &[
+    (
+        Way::Up,
+        &[
+            (0, 1, &[], 1, 1),
+            (0, 1, &[], 1, 1),
+            (0, 1, &[], 1, 1),
+            (0, 1, &[], 1, 1),
+        ],
+        &[1, 1, 1, 1],
+    ),
+    (
+        Way::Down,
+        &[
+            (0, 1, &[], 1, 0),
+            (0, 1, &[], 1, 0),
+            (0, 1, &[], 1, 0),
+            (0, 1, &[], 1, 0),
+        ],
+        &[0, 0, 0, 0],
+    ),
+];
 
-    /// Each seat saw the other one.
-    fn took_place(&self) -> bool {
-        self.first.met.load(Ordering::SeqCst) && self.second.met.load(Ordering::SeqCst)
-    }
-}
-
+/// Each seat sees the other one, and the moves of both are counted.
 #[test]
 fn two_seats_meet(rt: HostRuntime) -> Result<(), Fail> {
-    let system = chain_of(&rt, rt.alloc(), 4, 9)?;
-    assert!(rt; 0 < system.points());
-    let rising = Meeting::new();
-    let low = least(&rt, rt.alloc(), &system, 2, &rising)?;
-    assert_eq!(rt; low.seat.seen(), [0, 1, 3, 6].as_slice());
-    assert!(rt; rising.took_place());
-    let falling = Meeting::new();
-    let high = greatest(&rt, rt.alloc(), &system, 2, &falling)?;
-    assert_eq!(rt; high.seat.seen(), [3, 6, 8, 9].as_slice());
-    assert!(rt; falling.took_place());
+    for (way, rows, want) in MET {
+        let system = system_of(&rt, rt.alloc(), rows)?;
+        assert!(rt; 0 < system.points());
+        let gate = Meeting {
+            first: Flags::new(),
+            second: Flags::new(),
+        };
+        let (seen, moves) = solve(&rt, rt.alloc(), &system, *way, 2, &gate)?;
+        assert_eq!(rt; (seen.as_slice(), moves), (*want, 4));
+        assert!(rt; gate.first.met.load(Ordering::SeqCst));
+        assert!(rt; gate.second.met.load(Ordering::SeqCst));
+    }
     Ok(())
 }
 
-/// Each point is raised once, and each of the two seats has raised the first one of its range before they meet.
-#[test]
-fn the_raises_of_both_seats_are_counted(rt: HostRuntime) -> Result<(), Fail> {
-    let system = system_of(&rt, rt.alloc(), &RISING)?;
-    assert!(rt; 0 < system.points());
-    let gate = Meeting::new();
-    let low = least(&rt, rt.alloc(), &system, 2, &gate)?;
-    assert!(rt; gate.took_place());
-    assert_eq!(rt; low.seat.seen(), [1, 1, 1, 1].as_slice());
-    assert_eq!(rt; low.raises, 4);
-    Ok(())
-}
-
-/// Each point is lowered once, and each of the two seats has lowered the first one of its range before they meet.
-#[test]
-fn the_lowers_of_both_seats_are_counted(rt: HostRuntime) -> Result<(), Fail> {
-    let system = system_of(&rt, rt.alloc(), &FALLING)?;
-    assert!(rt; 0 < system.points());
-    let gate = Meeting::new();
-    let high = greatest(&rt, rt.alloc(), &system, 2, &gate)?;
-    assert!(rt; gate.took_place());
-    assert_eq!(rt; high.seat.seen(), [0, 0, 0, 0].as_slice());
-    assert_eq!(rt; high.lowers, 4);
-    Ok(())
-}
+/// Four points in the box from 0 to 9. The two in the middle are joined; the second of them has nearly the weight of its
+/// constant 9 alone, and the others have no pull.
+const PULLED: [Row; 4] = [
+    (0, 9, &[], 1, 0),
+    (0, 9, &[(2, 1)], 1, 4),
+    (0, 9, &[(1, 1)], 100, 900),
+    (0, 9, &[], 1, 0),
+];
 
 /// Lets the second of two seats fetch its first point before the first one fetches its second.
 #[derive(Drop)]
@@ -235,24 +249,18 @@ struct Turns {
     first_came: AtomicBool,
 }
 
-impl Turns {
-    /// Looks for the flag, for so many turns at most.
-    fn waits(flag: &AtomicBool) {
-        let _came = (0..TURNS).any(|_| flag.load(Ordering::SeqCst));
-    }
-}
-
 impl Gate for Turns {
     fn pass(&self, _seat: usize, point: usize) {
         match point {
-            0 => Turns::waits(&self.second_came),
+            0 => {
+                comes(&self.second_came, TURNS);
+            }
             1 => self.first_came.store(true, Ordering::SeqCst),
             2 => {
                 self.second_came.store(true, Ordering::SeqCst);
-                Turns::waits(&self.first_came);
+                comes(&self.first_came, TURNS);
                 // time for a fetch that would still be under way
-                let never = AtomicBool::new(false);
-                let _ = (0..TURNS / 50).any(|_| never.load(Ordering::SeqCst));
+                comes(&AtomicBool::new(false), TURNS / 50);
             }
             _ => {}
         }
@@ -269,8 +277,7 @@ fn the_gate_is_called_after_the_relaxation(rt: HostRuntime) -> Result<(), Fail> 
         second_came: AtomicBool::new(false),
         first_came: AtomicBool::new(false),
     };
-    let low = least(&rt, rt.alloc(), &system, 2, &gate)?;
-    assert_eq!(rt; low.seat.seen(), [0, 6, 8, 0].as_slice());
-    assert_eq!(rt; low.raises, 2);
+    let (seen, raises) = solve(&rt, rt.alloc(), &system, Way::Up, 2, &gate)?;
+    assert_eq!(rt; (seen.as_slice(), raises), ([0, 6, 8, 0].as_slice(), 2));
     Ok(())
 }

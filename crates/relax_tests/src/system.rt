@@ -1,9 +1,6 @@
 //! Systems that were worked by hand.
 
-ghost use Rattle.std.specs.Prelude.{◌<◌, length};
-
 use crate::samples::{PAIR, Row, WIDE, is_boxed, points_of, system_of};
-use pad_reach::{ReachError, Web, reach};
 use relax_system::{Values, greatest_plain, is_valid, least_plain};
 use std::test::Fail;
 
@@ -23,7 +20,7 @@ const GREATEST: [Row; 1] = [(
 )];
 
 /// Systems, and their least and greatest vectors.
-const SOLVED: [(&[Row], &[u64], &[u64]); 6] = [
+const SOLVED: &[(&[Row], &[u64], &[u64])] = &[
     (&[], &[], &[]),
     (&PAIR, &[0, 1], &[2, 3]),
     (&MIDDLE, &[5_000_000], &[5_000_000]),
@@ -46,7 +43,7 @@ const SOLVED: [(&[Row], &[u64], &[u64]); 6] = [
 ];
 
 /// Points, and whether they make a valid system.
-const JUDGED: [(&[Row], bool); 16] = [
+const JUDGED: &[(&[Row], bool)] = &[
     // no point, a pair, a neighbour in two entries, and the greatest box, weight and sum
     (&[], true),
     (&PAIR, true),
@@ -74,42 +71,31 @@ const JUDGED: [(&[Row], bool); 16] = [
     (&[(0, 3, &[], 1, 4)], false),
 ];
 
-/// Vectors of the pair, their means rounded down and up, and whether they are quiet on either side.
-const ROUNDED: [(&[u64], [u64; 2], [u64; 2], bool, bool); 6] = [
-    (&[0, 1], [0, 1], [1, 2], true, true),
-    (&[1, 2], [1, 2], [1, 2], true, true),
-    (&[2, 3], [1, 2], [2, 3], true, true),
-    (&[0, 0], [0, 1], [0, 2], false, true),
-    (&[3, 3], [1, 3], [2, 3], true, false),
-    (&[1, 3], [1, 2], [2, 2], true, false),
+/// Vectors of the pair, the means of each point, rounded down and up, and whether they are quiet on either side.
+const ROUNDED: &[(&[u64], &[(u64, u64)], (bool, bool))] = &[
+    (&[0, 1], &[(0, 1), (1, 2)], (true, true)),
+    (&[1, 2], &[(1, 1), (2, 2)], (true, true)),
+    (&[2, 3], &[(1, 2), (2, 3)], (true, true)),
+    (&[0, 0], &[(0, 0), (1, 2)], (false, true)),
+    (&[3, 3], &[(1, 2), (3, 3)], (true, false)),
+    (&[1, 3], &[(1, 2), (2, 2)], (true, false)),
 ];
-
-/// A point's first neighbour, and whether the point is anchored.
-fn first_neighbour<W: Web>(web: &W, i: usize) -> Option<(u32, bool)>
-    requires { i < length (W.joints web.now) }
-{
-    if web.degree(i) == 0 {
-        None
-    } else {
-        Some((web.neighbour(i, 0), web.anchored(i)))
-    }
-}
 
 #[test]
 fn solves(rt: HostRuntime) -> Result<(), Fail> {
     for (rows, lo, hi) in SOLVED {
         let system = system_of(&rt, rt.alloc(), rows)?;
-        assert_eq!(rt; least_plain(rt.alloc(), &system)?.as_slice(), lo);
-        assert_eq!(rt; greatest_plain(rt.alloc(), &system)?.as_slice(), hi);
+        assert_eq!(rt; least_plain(rt.alloc(), &system)?.as_slice(), *lo);
+        assert_eq!(rt; greatest_plain(rt.alloc(), &system)?.as_slice(), *hi);
     }
     Ok(())
 }
 
 #[test]
 fn judges(rt: HostRuntime) -> Result<(), Fail> {
-    for (k, (rows, valid)) in JUDGED.into_iter().enumerate() {
+    for (k, (rows, valid)) in JUDGED.iter().enumerate() {
         let points = points_of(rt.alloc(), rows)?;
-        assert_eq!(rt; is_valid(points.as_slice()), valid, "case {k}");
+        assert_eq!(rt; is_valid(points.as_slice()), *valid, "case {k}");
     }
     Ok(())
 }
@@ -117,25 +103,14 @@ fn judges(rt: HostRuntime) -> Result<(), Fail> {
 #[test]
 fn rounds(rt: HostRuntime) -> Result<(), Fail> {
     let system = system_of(&rt, rt.alloc(), &PAIR)?;
-    assert_eq!(rt; system.points(), 2);
-    for (v, floors, ceils, floor_quiet, ceil_quiet) in ROUNDED {
+    for (v, means, quiet) in ROUNDED {
         assert!(rt; is_boxed(&system, v));
-        assert_eq!(rt; [system.floor_mean(0, v), system.floor_mean(1, v)], floors);
-        assert_eq!(rt; [system.ceil_mean(0, v), system.ceil_mean(1, v)], ceils);
-        assert_eq!(rt; system.is_floor_quiet(v), floor_quiet);
-        assert_eq!(rt; system.is_ceil_quiet(v), ceil_quiet);
+        for (i, mean) in means.iter().enumerate() {
+            assert!(rt; i < system.points());
+            assert_eq!(rt; (system.floor_mean(i, v), system.ceil_mean(i, v)), *mean);
+        }
+        assert_eq!(rt; (system.is_floor_quiet(v), system.is_ceil_quiet(v)), *quiet);
     }
-    Ok(())
-}
-
-#[test]
-fn searches_for_chains(rt: HostRuntime) -> Result<(), Fail> {
-    let held = system_of(&rt, rt.alloc(), &PAIR)?;
-    assert!(rt; reach(rt.alloc(), &held).is_ok());
-    assert!(rt; held.points() == 2);
-    assert_eq!(rt; first_neighbour(&held, 1), Some((0, true)));
-    let loose = system_of(&rt, rt.alloc(), &UNANCHORED)?;
-    assert!(rt; matches!(reach(rt.alloc(), &loose), Err(ReachError::Unanchored(0))));
     Ok(())
 }
 

@@ -1,24 +1,22 @@
-//! Tables that were worked by hand, and two threads on one table.
+//! Tables that were worked by hand, with three seats in turn.
 
 ghost use Rattle.std.specs.Prelude.{◌≡◌, ◌<◌, length, IfOk};
 ghost use Rattle.relax_system.specs.declared.side.Side.TheVariants.{Floor, Ceil};
 ghost use Rattle.relax_system.specs.Sides.{starts_of};
-ghost use Rattle.relax_system.specs.Extremal.{IsLeast};
 ghost use Rattle.relax_table.specs.Seats.{IsSeatOf};
 
-use crate::samples::{PAIR, Row, chain_of, system_of};
+use crate::samples::{PAIR, Row, system_of};
 use book_text::Memory;
-use relax_system::{System, least_plain};
+use relax_system::System;
 use relax_table::{
     CeilSeat, CeilTable, FloorSeat, FloorTable, Lowered, Raised, Steps, ends_may_start,
 };
 use std::alloc::Global;
 use std::marker::Brand;
+use std::mem;
 use std::process::Abort;
 use std::sync::ledger::{Blank, Ledger};
 use std::test::Fail;
-use std::thread;
-use std::thread::Threads;
 
 /// A chain of three points in the box from 0 to 9, with a constant 0 before it and a constant 9 behind it.
 const TRIO: [Row; 3] = [
@@ -36,6 +34,122 @@ enum Act {
     SettleRange(usize, usize),
     Settle,
 }
+
+/// What a seat does, what it has seen then, and how many words it has moved.
+type Turn = (&'static [Act], &'static [u64], u64);
+
+/// What is done on a table from an end of the boxes.
+struct Script {
+    rows: &'static [Row],
+    /// By the first seat, before a second one is split from it, and a third one from that.
+    alone: Turn,
+    /// By one seat after the other, over and over.
+    turns: &'static [Turn],
+    /// By the seat that all three are joined to.
+    joined: Turn,
+}
+
+/// On the way up.
+const RISES: &[Script] = &[
+    // a seat that is split after a raise, and settled then
+    Script {
+        rows: &PAIR,
+        alone: (&[Act::Relax(1, 0, 1), Act::Relax(0, 0, 0)], &[0, 1], 1),
+        turns: &[(&[Act::Settle], &[0, 1], 1), (&[], &[0, 1], 0)],
+        joined: (&[], &[0, 1], 1),
+    },
+    // the second seat looks at the word that the first one raised, and the third one looks around
+    Script {
+        rows: &PAIR,
+        alone: (&[], &[0, 0], 0),
+        turns: &[
+            (&[Act::Relax(1, 0, 1)], &[0, 1], 1),
+            (
+                &[Act::Look(1, 1), Act::Fetch(0, 0, 0), Act::SettleRange(0, 1)],
+                &[0, 1],
+                0,
+            ),
+            (&[Act::Relax(0, 0, 0)], &[0, 1], 0),
+        ],
+        joined: (&[], &[0, 1], 1),
+    },
+    // the second seat looks at both neighbours, and finds the word that the first one left; the third one only fetches
+    Script {
+        rows: &TRIO,
+        alone: (&[], &[0, 0, 0], 0),
+        turns: &[
+            (
+                &[
+                    Act::Relax(2, 0, 4),
+                    Act::Relax(1, 0, 2),
+                    Act::Relax(2, 4, 5),
+                    Act::Relax(0, 0, 1),
+                ],
+                &[1, 2, 5],
+                4,
+            ),
+            (&[Act::Relax(1, 2, 3)], &[1, 3, 5], 1),
+            (&[Act::Fetch(2, 5, 5)], &[0, 0, 5], 0),
+        ],
+        joined: (&[], &[1, 3, 5], 5),
+    },
+    // a seat counts the raises that it makes as it settles a fresh table
+    Script {
+        rows: &PAIR,
+        alone: (&[Act::Settle], &[0, 1], 1),
+        turns: &[],
+        joined: (&[], &[0, 1], 1),
+    },
+];
+
+/// The same on the way down.
+const FALLS: &[Script] = &[
+    Script {
+        rows: &PAIR,
+        alone: (&[Act::Relax(0, 3, 2)], &[2, 3], 1),
+        turns: &[(&[Act::Settle], &[2, 3], 1), (&[], &[2, 3], 0)],
+        joined: (&[], &[2, 3], 1),
+    },
+    Script {
+        rows: &PAIR,
+        alone: (&[], &[3, 3], 0),
+        turns: &[
+            (&[Act::Relax(0, 3, 2)], &[2, 3], 1),
+            (
+                &[Act::Look(0, 2), Act::Fetch(1, 3, 3), Act::SettleRange(0, 1)],
+                &[2, 3],
+                0,
+            ),
+            (&[Act::Relax(1, 3, 3)], &[2, 3], 0),
+        ],
+        joined: (&[], &[2, 3], 1),
+    },
+    Script {
+        rows: &TRIO,
+        alone: (&[], &[9, 9, 9], 0),
+        turns: &[
+            (
+                &[
+                    Act::Relax(0, 9, 5),
+                    Act::Relax(1, 9, 7),
+                    Act::Relax(2, 9, 8),
+                    Act::Relax(0, 5, 4),
+                ],
+                &[4, 7, 8],
+                4,
+            ),
+            (&[Act::Relax(1, 7, 6)], &[4, 6, 8], 1),
+            (&[Act::Fetch(0, 4, 4)], &[4, 9, 9], 0),
+        ],
+        joined: (&[], &[4, 6, 8], 5),
+    },
+    Script {
+        rows: &PAIR,
+        alone: (&[Act::Settle], &[2, 3], 1),
+        turns: &[],
+        joined: (&[], &[2, 3], 1),
+    },
+];
 
 /// A floor table from the bottoms of the boxes.
 fn from_bottoms<'a>(
@@ -115,19 +229,18 @@ fn rise<L: Ledger>(
     }
 }
 
-/// Calls with a seat of a floor table, after which it has seen this and made so many raises.
+/// A turn of a seat of a floor table.
 fn climb<L: Ledger>(
     rt: &impl Abort,
     table: &FloorTable<'_>,
     seat: &mut FloorSeat,
     steps: &mut Steps<L>,
-    acts: &[Act],
-    seen: &[u64],
-    raises: u64,
+    turn: Turn,
 )
     requires { IsSeatOf table.now seat.old }
     ensures { IsSeatOf table.now seat.new }
 {
+    let (acts, seen, raises) = turn;
     for act in acts {
         rise(rt, table, seat, *act, steps);
     }
@@ -177,19 +290,18 @@ fn fall<L: Ledger>(
     }
 }
 
-/// Calls with a seat of a ceil table, after which it has seen this and made so many lowers.
+/// A turn of a seat of a ceil table.
 fn descend<L: Ledger>(
     rt: &impl Abort,
     table: &CeilTable<'_>,
     seat: &mut CeilSeat,
     steps: &mut Steps<L>,
-    acts: &[Act],
-    seen: &[u64],
-    lowers: u64,
+    turn: Turn,
 )
     requires { IsSeatOf table.now seat.old }
     ensures { IsSeatOf table.now seat.new }
 {
+    let (acts, seen, lowers) = turn;
     for act in acts {
         fall(rt, table, seat, *act, steps);
     }
@@ -197,210 +309,51 @@ fn descend<L: Ledger>(
     assert_eq!(rt; seat.lowers(), lowers);
 }
 
-/// The pair on the way up, by one seat that is split and joined again.
-fn goes_up<L: Ledger>(rt: &impl Abort, alloc: Global, steps: &mut Steps<L>) -> Result<(), Memory> {
-    let system = system_of(rt, alloc, &PAIR)?;
-    let (table, mut seat) = from_bottoms(rt, alloc, &system)?;
-    climb(rt, &table, &mut seat, steps, &[], &[0, 0], 0);
-    climb(
-        rt,
-        &table,
-        &mut seat,
-        steps,
-        &[Act::Relax(1, 0, 1)],
-        &[0, 1],
-        1,
-    );
-    climb(
-        rt,
-        &table,
-        &mut seat,
-        steps,
-        &[Act::Relax(0, 0, 0)],
-        &[0, 1],
-        1,
-    );
-    let mut other = table.split(&mut seat)?;
-    climb(rt, &table, &mut other, steps, &[], &[0, 1], 0);
-    climb(rt, &table, &mut seat, steps, &[Act::Settle], &[0, 1], 1);
-    let mut both = table.join_seats(seat, other);
-    climb(rt, &table, &mut both, steps, &[], &[0, 1], 1);
+/// Plays a script on a floor table.
+fn goes_up<L: Ledger>(
+    rt: &impl Abort,
+    alloc: Global,
+    steps: &mut Steps<L>,
+    script: &Script,
+) -> Result<(), Memory> {
+    let system = system_of(rt, alloc, script.rows)?;
+    let (whole, mut first) = from_bottoms(rt, alloc, &system)?;
+    let table = &whole;
+    climb(rt, table, &mut first, steps, script.alone);
+    let mut second = table.split(&mut first)?;
+    let mut third = table.split(&mut second)?;
+    for turn in script.turns {
+        climb(rt, table, &mut first, steps, *turn);
+        mem::swap(&mut first, &mut second);
+        mem::swap(&mut second, &mut third);
+    }
+    let both = table.join_seats(first, second);
+    let mut all = table.join_seats(both, third);
+    climb(rt, table, &mut all, steps, script.joined);
     Ok(())
 }
 
-/// The same on the way down.
+/// Plays a script on a ceil table.
 fn goes_down<L: Ledger>(
     rt: &impl Abort,
     alloc: Global,
     steps: &mut Steps<L>,
+    script: &Script,
 ) -> Result<(), Memory> {
-    let system = system_of(rt, alloc, &PAIR)?;
-    let (table, mut seat) = from_tops(rt, alloc, &system)?;
-    descend(rt, &table, &mut seat, steps, &[], &[3, 3], 0);
-    descend(
-        rt,
-        &table,
-        &mut seat,
-        steps,
-        &[Act::Relax(0, 3, 2)],
-        &[2, 3],
-        1,
-    );
-    let mut other = table.split(&mut seat)?;
-    descend(rt, &table, &mut other, steps, &[], &[2, 3], 0);
-    descend(rt, &table, &mut seat, steps, &[Act::Settle], &[2, 3], 1);
-    let mut both = table.join_seats(seat, other);
-    descend(rt, &table, &mut both, steps, &[], &[2, 3], 1);
-    Ok(())
-}
-
-/// On the way up, a second seat looks at a word that the first one raised, and a third one looks around.
-fn looks_up<L: Ledger>(rt: &impl Abort, alloc: Global, steps: &mut Steps<L>) -> Result<(), Memory> {
-    let system = system_of(rt, alloc, &PAIR)?;
-    let (table, mut seat) = from_bottoms(rt, alloc, &system)?;
-    let mut other = table.split(&mut seat)?;
-    let mut third = table.split(&mut other)?;
-    climb(
-        rt,
-        &table,
-        &mut seat,
-        steps,
-        &[Act::Relax(1, 0, 1)],
-        &[0, 1],
-        1,
-    );
-    climb(
-        rt,
-        &table,
-        &mut third,
-        steps,
-        &[Act::Relax(0, 0, 0)],
-        &[0, 1],
-        0,
-    );
-    climb(
-        rt,
-        &table,
-        &mut other,
-        steps,
-        &[Act::Look(1, 1)],
-        &[0, 1],
-        0,
-    );
-    let acts = [Act::Fetch(0, 0, 0), Act::SettleRange(0, 1)];
-    climb(rt, &table, &mut other, steps, &acts, &[0, 1], 0);
-    Ok(())
-}
-
-/// The same on the way down.
-fn looks_down<L: Ledger>(
-    rt: &impl Abort,
-    alloc: Global,
-    steps: &mut Steps<L>,
-) -> Result<(), Memory> {
-    let system = system_of(rt, alloc, &PAIR)?;
-    let (table, mut seat) = from_tops(rt, alloc, &system)?;
-    let mut other = table.split(&mut seat)?;
-    let mut third = table.split(&mut other)?;
-    descend(
-        rt,
-        &table,
-        &mut seat,
-        steps,
-        &[Act::Relax(0, 3, 2)],
-        &[2, 3],
-        1,
-    );
-    descend(
-        rt,
-        &table,
-        &mut third,
-        steps,
-        &[Act::Relax(1, 3, 3)],
-        &[2, 3],
-        0,
-    );
-    descend(
-        rt,
-        &table,
-        &mut other,
-        steps,
-        &[Act::Look(0, 2)],
-        &[2, 3],
-        0,
-    );
-    let acts = [Act::Fetch(1, 3, 3), Act::SettleRange(0, 1)];
-    descend(rt, &table, &mut other, steps, &acts, &[2, 3], 0);
-    Ok(())
-}
-
-/// On the chain of three on the way up, a second seat looks at both neighbours, and finds the word that the first one left.
-fn looks_around_up<L: Ledger>(
-    rt: &impl Abort,
-    alloc: Global,
-    steps: &mut Steps<L>,
-) -> Result<(), Memory> {
-    let system = system_of(rt, alloc, &TRIO)?;
-    let (table, mut seat) = from_bottoms(rt, alloc, &system)?;
-    let mut other = table.split(&mut seat)?;
-    let acts = [
-        Act::Relax(2, 0, 4),
-        Act::Relax(1, 0, 2),
-        Act::Relax(2, 4, 5),
-        Act::Relax(0, 0, 1),
-    ];
-    climb(rt, &table, &mut seat, steps, &acts, &[1, 2, 5], 4);
-    climb(
-        rt,
-        &table,
-        &mut other,
-        steps,
-        &[Act::Relax(1, 2, 3)],
-        &[1, 3, 5],
-        1,
-    );
-    Ok(())
-}
-
-/// The same on the way down.
-fn looks_around_down<L: Ledger>(
-    rt: &impl Abort,
-    alloc: Global,
-    steps: &mut Steps<L>,
-) -> Result<(), Memory> {
-    let system = system_of(rt, alloc, &TRIO)?;
-    let (table, mut seat) = from_tops(rt, alloc, &system)?;
-    let mut other = table.split(&mut seat)?;
-    let acts = [
-        Act::Relax(0, 9, 5),
-        Act::Relax(1, 9, 7),
-        Act::Relax(2, 9, 8),
-        Act::Relax(0, 5, 4),
-    ];
-    descend(rt, &table, &mut seat, steps, &acts, &[4, 7, 8], 4);
-    descend(
-        rt,
-        &table,
-        &mut other,
-        steps,
-        &[Act::Relax(1, 7, 6)],
-        &[4, 6, 8],
-        1,
-    );
-    Ok(())
-}
-
-/// A seat that settles a fresh table counts the moves that it makes.
-fn counts_the_moves<L: Ledger>(
-    rt: &impl Abort,
-    alloc: Global,
-    steps: &mut Steps<L>,
-) -> Result<(), Memory> {
-    let system = system_of(rt, alloc, &PAIR)?;
-    let (floor, mut rising) = from_bottoms(rt, alloc, &system)?;
-    climb(rt, &floor, &mut rising, steps, &[Act::Settle], &[0, 1], 1);
-    let (ceil, mut falling) = from_tops(rt, alloc, &system)?;
-    descend(rt, &ceil, &mut falling, steps, &[Act::Settle], &[2, 3], 1);
+    let system = system_of(rt, alloc, script.rows)?;
+    let (whole, mut first) = from_tops(rt, alloc, &system)?;
+    let table = &whole;
+    descend(rt, table, &mut first, steps, script.alone);
+    let mut second = table.split(&mut first)?;
+    let mut third = table.split(&mut second)?;
+    for turn in script.turns {
+        descend(rt, table, &mut first, steps, *turn);
+        mem::swap(&mut first, &mut second);
+        mem::swap(&mut second, &mut third);
+    }
+    let both = table.join_seats(first, second);
+    let mut all = table.join_seats(both, third);
+    descend(rt, table, &mut all, steps, script.joined);
     Ok(())
 }
 
@@ -411,62 +364,17 @@ fn works<L: Ledger>(rt: &impl Abort, alloc: Global, blank: Blank) -> Result<(), 
     requires some { 0 < L.parts }
 {
     let mut steps = Steps::<L>::new(blank);
-    goes_up(rt, alloc, &mut steps)?;
-    goes_down(rt, alloc, &mut steps)?;
-    looks_up(rt, alloc, &mut steps)?;
-    looks_down(rt, alloc, &mut steps)?;
-    looks_around_up(rt, alloc, &mut steps)?;
-    looks_around_down(rt, alloc, &mut steps)?;
-    counts_the_moves(rt, alloc, &mut steps)
+    for script in RISES {
+        goes_up(rt, alloc, &mut steps, script)?;
+    }
+    for script in FALLS {
+        goes_down(rt, alloc, &mut steps, script)?;
+    }
+    Ok(())
 }
 
 #[test]
 fn tables_work(rt: HostRuntime) -> Result<(), Fail> {
     works::<Brand>(&rt, rt.alloc(), Blank::new(1))?;
-    Ok(())
-}
-
-/// Settles a seat, and gives it back.
-fn settled<L: Ledger>(table: &FloorTable<'_>, mut seat: FloorSeat, mut steps: Steps<L>) -> FloorSeat
-    requires { IsSeatOf table.now seat }
-    ensures { IsLeast table.now.system result.seen }
-{
-    table.settle(&mut seat, &mut steps);
-    seat
-}
-
-/// Two threads settle a seat each on one table, and both have seen the plain solver's vector.
-fn race<L: Ledger + Send + Sync, M: Ledger + Send + Sync, R: Threads + Abort>(
-    rt: &R,
-    alloc: Global,
-    blanks: (Blank, Blank),
-) -> Result<(), Memory>
-    requires one { (blanks.0.name ≡ L.name) × (blanks.0.parts ≡ L.parts) × (0 < L.parts) }
-    requires two { (blanks.1.name ≡ M.name) × (blanks.1.parts ≡ M.parts) × (0 < M.parts) }
-{
-    let first = Steps::<L>::new(blanks.0);
-    let second = Steps::<M>::new(blanks.1);
-    let system = chain_of(rt, alloc, 40, 1000)?;
-    let (table, mut seat) = from_bottoms(rt, alloc, &system)?;
-    let other = table.split(&mut seat)?;
-    let shared = &table;
-    let (one, two) = thread::join(
-        rt,
-        move || -> FloorSeat
-            requires { IsSeatOf shared.now seat }
-        { settled(shared, seat, first) },
-        move || -> FloorSeat
-            requires { IsSeatOf shared.now other }
-        { settled(shared, other, second) },
-    );
-    let least = least_plain(alloc, &system)?;
-    assert_eq!(rt; one.seen(), least.as_slice());
-    assert_eq!(rt; two.seen(), least.as_slice());
-    Ok(())
-}
-
-#[test]
-fn two_threads_settle_one_chain(rt: HostRuntime) -> Result<(), Fail> {
-    race::<Brand, Brand, _>(&rt, rt.alloc(), (Blank::new(1), Blank::new(1)))?;
     Ok(())
 }
