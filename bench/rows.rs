@@ -1,6 +1,6 @@
 //! The rows of a design, by hand in plain Rust: what the proved ones are measured against.
 //!
-//! `rows [CELLS SUBROWS BLOCKS]`, by default 2000 20 10, makes the texts of a design, and of these the design, its segments, the
+//! `rows [CELLS SUBROWS BLOCKS SIDE]`, by default 2000 20 10 4, makes the texts of a design, and of these the design, its segments, the
 //! places of its cells by the greedy rule, and the text of the placement. Standard error gets the microseconds of the segments,
 //! of the places, and of all from the texts to the text; standard output how many segments there are and the sums of their x, y
 //! and sites, how many places and the sums of their segments' numbers and of their sites, and how many bytes the text has and
@@ -8,13 +8,14 @@
 //! no room.
 //!
 //! All numbers of the design are whole units. It has SUBROWS subrows of S = floor(21 CELLS / (4 SUBROWS)) sites, 1 wide and 10
-//! high: subrow k begins at x (k mod 4) S and y 10 floor(k / 4). So the core is 4 S wide, and as high as its R = ceil(SUBROWS / 4)
-//! rows. What else there is tell the numbers that come behind 1 in steps of s * 6364136223846793005 + 1442695040888963407 mod
-//! 2^64, each shifted right by 33; let r be the next of them wherever it stands. First come the fixed blocks, which may overlap:
-//! each is 8 + r mod 16 wide and 10 + r mod 30 high, and stands at x r mod (4 S) and y r mod (10 R), drawn in this order. Then
-//! come the cells: each is 1 + r mod 8 wide and 10 high, and then its wish is drawn. Wishes lie in 256 heaps, as those of cells
-//! from the mids of regions do: with the core W by H millionths, cell i wishes x (i mod 16) floor(W / 16) + r mod floor(W / 64),
-//! and y (floor(i / 16) mod 16) floor(H / 16) + r mod floor(H / 64), in millionths.
+//! high, SIDE of them side by side: subrow k begins at x (k mod SIDE) S and y 10 floor(k / SIDE). So the core is SIDE S wide, and
+//! as high as its R = ceil(SUBROWS / SIDE) rows. What else there is tell the numbers that come behind 1 in steps of
+//! s * 6364136223846793005 + 1442695040888963407 mod 2^64, each shifted right by 33; let r be the next of them wherever it
+//! stands. First come the fixed blocks, which may overlap: each is 8 + r mod 16 wide and 10 + r mod 30 high, and stands at x
+//! r mod (SIDE S) and y r mod (10 R), drawn in this order. Then come the cells: each is 1 + r mod 8 wide and 10 high, and then
+//! its wish is drawn. Wishes lie in 256 heaps, as those of cells from the mids of regions do: with the core W by H millionths,
+//! cell i wishes x (i mod 16) floor(W / 16) + r mod floor(W / 64), and y (floor(i / 16) mod 16) floor(H / 16) +
+//! r mod floor(H / 64), in millionths.
 //!
 //! In the texts a block is called b and a cell c, with its number from 0 behind it. Blocks are terminals, the places of cells
 //! are 0, and there are no nets.
@@ -39,6 +40,13 @@ use std::time::Instant;
 
 const UNIT: i64 = 1_000_000;
 
+const DEFAULT: Sizes = Sizes {
+    cells: 2000,
+    subrows: 20,
+    blocks: 10,
+    side: 4,
+};
+
 /// Numbers that look random.
 struct Numbers {
     state: u64,
@@ -54,15 +62,24 @@ impl Numbers {
     }
 }
 
+/// How many cells, subrows and fixed blocks there are, and how many of the subrows stand side by side.
+struct Sizes {
+    cells: i64,
+    subrows: i64,
+    blocks: i64,
+    side: i64,
+}
+
 /// The sizes of the core in units.
 struct Core {
     sites: i64,
+    side: i64,
     rows: i64,
 }
 
 impl Core {
     fn width(&self) -> i64 {
-        4 * self.sites
+        self.side * self.sites
     }
 
     fn height(&self) -> i64 {
@@ -97,10 +114,17 @@ impl Made {
 }
 
 /// The texts of the design, with the blocks before the cells, and what the cells wish.
-fn made(cells: i64, subrows: i64, blocks: i64) -> (Texts, Vec<Wish>) {
+fn made(sizes: &Sizes) -> (Texts, Vec<Wish>) {
+    let Sizes {
+        cells,
+        subrows,
+        blocks,
+        side,
+    } = *sizes;
     let core = Core {
         sites: 21 * cells / (4 * subrows),
-        rows: (subrows + 3) / 4,
+        side,
+        rows: (subrows + side - 1) / side,
     };
     let count = cells + blocks;
     let mut made = Made {
@@ -121,9 +145,9 @@ fn made(cells: i64, subrows: i64, blocks: i64) -> (Texts, Vec<Wish>) {
     (texts, made.wishes)
 }
 
-/// The rows: up to four subrows side by side in each.
+/// The rows: up to so many subrows side by side in each.
 fn rows_text(core: &Core, subrows: i64) -> String {
-    let Core { sites, rows } = core;
+    let Core { sites, side, rows } = core;
     let mut text = format!("UCLA scl 1.0\nNumRows : {rows}\n");
     for row in 0..*rows {
         let y = 10 * row;
@@ -132,7 +156,7 @@ fn rows_text(core: &Core, subrows: i64) -> String {
             "CoreRow Horizontal\nCoordinate : {y}\nHeight : 10\nSitewidth : 1\nSitespacing : 1\n"
         )
         .expect("room");
-        for k in 0..(subrows - 4 * row).min(4) {
+        for k in 0..(subrows - side * row).min(*side) {
             let x = k * sites;
             writeln!(text, "SubrowOrigin : {x} NumSites : {sites}").expect("room");
         }
@@ -210,11 +234,19 @@ fn tell_places(places: &Result<(Vec<Place>, Vec<u8>), NoRoom>) {
 
 fn main() {
     let words: Vec<i64> = env::args().skip(1).flat_map(|word| word.parse()).collect();
-    let (cells, subrows, blocks) = match words[..] {
-        [cells, subrows, blocks] => (cells, subrows, blocks),
-        _ => (2000, 20, 10),
+    let [cells, subrows, blocks, side] = *words else {
+        return run(&DEFAULT);
     };
-    let (texts, wishes) = made(cells, subrows, blocks);
+    run(&Sizes {
+        cells,
+        subrows,
+        blocks,
+        side,
+    });
+}
+
+fn run(sizes: &Sizes) {
+    let (texts, wishes) = made(sizes);
     let placed = timed("reading to placement", || placed(&texts, &wishes));
     tell_segments(&placed.segments);
     tell_places(&placed.places);

@@ -1,8 +1,9 @@
 #!/usr/bin/env bash
 # Times the segments and the places of cells alone, and all from a design's texts to the text of its placement, three times as
 # they are proved and three times by hand, in turn, compares what they made, and prints the medians in microseconds and their
-# ratios. Where the proved ones aren't built, those by hand are timed alone. Usage: bench/rows.sh [CELLS SUBROWS BLOCKS], by
-# default 50,000, 200,000 and 800,000 cells, with a subrow for each 100 and a fixed block for each 200 of them.
+# ratios. Where the proved ones aren't built, those by hand are timed alone. Usage: bench/rows.sh [CELLS SUBROWS BLOCKS SIDE], by
+# default 50,000, 200,000 and 800,000 cells, with a subrow for each 100 and a fixed block for each 200 of them, and four subrows
+# side by side; and then 50,000 subrows side by side in one row under 1,000 blocks as high as the row, too short for the cells.
 set -eu
 bench=$(cd "$(dirname "$0")" && pwd)
 work=$(mktemp -d)
@@ -23,7 +24,7 @@ compare() {
             cmp "$work/$name.told" "$work/by_hand.told"
         done
     done
-    echo "$1 cells, $2 subrows, $3 blocks"
+    echo "$1 cells, $2 subrows, $3 blocks, $4 side by side"
     for what in segments legalise 'reading to placement'; do
         b=$(median by_hand "$what")
         if [ -x "$work/proved" ]; then
@@ -35,10 +36,11 @@ compare() {
     done
     sed 's/^/    /' "$work/by_hand.told"
 }
-if [ $# = 3 ]; then
+if [ $# = 4 ]; then
     compare "$@"
 else
     for cells in 50000 200000 800000; do
-        compare "$cells" $((cells / 100)) $((cells / 200))
+        compare "$cells" $((cells / 100)) $((cells / 200)) 4
     done
+    compare 50000 50000 1000 50000
 fi

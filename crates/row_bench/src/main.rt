@@ -24,6 +24,7 @@ const DEFAULT: Sizes = Sizes {
     cells: 2000,
     subrows: 20,
     blocks: 10,
+    side: 4,
 };
 
 /// Why nothing is timed.
@@ -169,24 +170,28 @@ fn tell_text(rt: &HostRuntime, text: &[u8]) -> io::Result<()> {
     println!(rt; "text {count} sum {sum}")
 }
 
-/// The words behind the program's name, where they are three numbers.
+/// The words behind the program's name, where they are four numbers.
 fn sizes_of(rt: &HostRuntime) -> io::Result<Sizes> {
     let mut words = env::args(rt)?;
     let _program = words.next();
-    let (cells, subrows, blocks) = (words.next(), words.next(), words.next());
-    let (Some(cells), Some(subrows), Some(blocks)) = (cells, subrows, blocks) else {
+    let (cells, subrows) = (words.next(), words.next());
+    let (blocks, side) = (words.next(), words.next());
+    let (Some(cells), Some(subrows), Some(blocks), Some(side)) = (cells, subrows, blocks, side)
+    else {
         return Ok(DEFAULT);
     };
     let numbers = (
         cells.as_str().parse::<u32>(),
         subrows.as_str().parse::<u32>(),
         blocks.as_str().parse::<u32>(),
+        side.as_str().parse::<u32>(),
     );
     Ok(match numbers {
-        (Ok(cells), Ok(subrows), Ok(blocks)) => Sizes {
+        (Ok(cells), Ok(subrows), Ok(blocks), Ok(side)) => Sizes {
             cells,
             subrows,
             blocks,
+            side,
         },
         _ => DEFAULT,
     })

@@ -8,12 +8,13 @@ use std::alloc::{AllocError, Global};
 /// Millionths in a unit.
 const UNIT: u64 = 1_000_000;
 
-/// How many cells, subrows and fixed blocks there are.
+/// How many cells, subrows and fixed blocks there are, and how many of the subrows stand side by side.
 #[derive(Clone, Copy, Debug, PartialEq, Eq)]
 pub struct Sizes {
     pub cells: u32,
     pub subrows: u32,
     pub blocks: u32,
+    pub side: u32,
 }
 
 /// The texts of a design's files, and where its cells wish their lower left corners.
@@ -26,24 +27,27 @@ pub struct Made {
     pub wishes: Vec<Wish>,
 }
 
-/// The sizes of the core in units: the sites of a subrow, and how many rows there are.
+/// The sizes of the core in units: the sites of a subrow, how many stand side by side, and how many rows there are.
 #[derive(Clone, Copy)]
 struct Core {
     sites: u64,
+    side: u64,
     rows: u64,
 }
 
 impl Core {
     fn new(sizes: &Sizes) -> Core {
         let (cells, subrows) = (u64::from(sizes.cells), u64::from(sizes.subrows));
+        let side = u64::from(sizes.side.max(1));
         Core {
             sites: (21 * cells).checked_div(4 * subrows).unwrap_or(0),
-            rows: subrows.div_ceil(4),
+            side,
+            rows: subrows.div_ceil(side),
         }
     }
 
     fn width(&self) -> u64 {
-        self.sites.saturating_mul(4)
+        self.sites.saturating_mul(self.side)
     }
 
     fn height(&self) -> u64 {
@@ -89,22 +93,24 @@ pub fn make_texts(alloc: Global, sizes: &Sizes) -> Result<Made, AllocError> {
     Ok(made)
 }
 
-/// The rows: up to four subrows side by side in each.
+/// The rows: up to so many subrows side by side in each.
 fn rows_text(alloc: Global, sizes: &Sizes, core: &Core) -> Result<String, AllocError> {
     let rows = core.rows;
     let sites = core.sites;
+    let side = sizes.side.max(1);
     let mut text = format!(in alloc; "UCLA scl 1.0\nNumRows : {rows}\n")?;
     for subrow in 0..sizes.subrows {
-        if subrow % 4 == 0 {
-            let y = u64::from(subrow / 4) * 10;
+        let (row, number) = (subrow / side, subrow % side);
+        if number == 0 {
+            let y = u64::from(row) * 10;
             text.push_str(&format!(in alloc;
                 "CoreRow Horizontal\nCoordinate : {y}\nHeight : 10\n"
             )?)?;
             text.push_str("Sitewidth : 1\nSitespacing : 1\n")?;
         }
-        let x = sites.saturating_mul(u64::from(subrow % 4));
+        let x = sites.saturating_mul(u64::from(number));
         text.push_str(&format!(in alloc; "SubrowOrigin : {x} NumSites : {sites}\n")?)?;
-        if subrow % 4 == 3 || subrow == sizes.subrows.saturating_sub(1) {
+        if number == side.saturating_sub(1) || subrow == sizes.subrows.saturating_sub(1) {
             text.push_str("End\n")?;
         }
     }
