@@ -2,7 +2,6 @@
 
 use book_design::{
     Core, Design, DesignFault, JoinError, Net, Node, Pin, Subrow, join_design, joined_nodes,
-    one_join,
 };
 use book_files::{FileKind, Orient, read_nets, read_nodes, read_pl, read_scl, read_wts};
 use std::alloc::{AllocError, Global};
@@ -116,7 +115,7 @@ fn is_same(found: &[u8], expected: &[u8]) -> bool {
 /// A node's name, width, height, place, orientation, and whether it is fixed.
 type NodeRow = (&'static [u8], i64, i64, i64, i64, Orient, bool);
 
-const B_NODES: [NodeRow; 5] = [
+const B_NODES: &[NodeRow] = &[
     (b"u", 3_000_000, 12_000_000, 0, 0, Orient::N, false),
     (b"v", 5_000_000, 12_000_000, 0, 0, Orient::N, false),
     (b"m", 6_000_000, 24_000_000, 14_000_000, 0, Orient::N, true),
@@ -143,7 +142,7 @@ const B_NODES: [NodeRow; 5] = [
 /// A net's weight and its pins.
 type NetRow = (u32, &'static [Pin]);
 
-const B_NETS: [NetRow; 3] = [
+const B_NETS: &[NetRow] = &[
     (
         1,
         &[
@@ -196,7 +195,7 @@ const B_NETS: [NetRow; 3] = [
     ),
 ];
 
-const B_SUBROWS: [Subrow; 3] = [
+const B_SUBROWS: &[Subrow] = &[
     Subrow {
         row: 0,
         x: 0,
@@ -261,9 +260,9 @@ fn a_design_is_joined(rt: HostRuntime) {
     let Some(Ok(design)) = join(rt.alloc(), &B) else {
         panic!(rt; "design B is not joined");
     };
-    assert!(rt; are_nodes(design.nodes(), &B_NODES));
-    assert!(rt; are_nets(design.nets(), &B_NETS));
-    assert!(rt; design.subrows() == B_SUBROWS.as_slice() && design.core() == B_CORE);
+    assert!(rt; are_nodes(design.nodes(), B_NODES));
+    assert!(rt; are_nets(design.nets(), B_NETS));
+    assert!(rt; design.subrows() == B_SUBROWS && design.core() == B_CORE);
     assert!(rt; (design.pitch(), design.row_height()) == (1_000_000, 12_000_000));
     assert!(rt; are_points_named(&design));
 }
@@ -276,19 +275,14 @@ fn nodes_are_joined_alone(rt: HostRuntime) -> Result<(), Fail> {
     let Ok(pl) = read_pl(rt.alloc(), B.pl) else {
         panic!(rt; "the places of design B aren't read");
     };
-    assert!(rt; are_nodes(&joined_nodes(rt.alloc(), &nodes, &pl)?, &B_NODES));
+    assert!(rt; are_nodes(&joined_nodes(rt.alloc(), &nodes, &pl)?, B_NODES));
     Ok(())
-}
-
-#[test]
-fn records_have_one_join() {
-    one_join();
 }
 
 /// Texts without a fault, the weights of the two nets, and where node 0 stands, how, and whether it is fixed.
 type Accepted = (Texts<'static>, [u32; 2], i64, i64, Orient, bool);
 
-const ACCEPTED: [Accepted; 12] = [
+const ACCEPTED: &[Accepted] = &[
     (A, [1, 1], 0, 0, Orient::N, false),
     (A_SPELT_ANEW, [1, 1], 0, 0, Orient::N, false),
     // the last line of a name counts, in both files
@@ -443,7 +437,7 @@ fn is_first(nodes: &[Node<'_>], place: (i64, i64, Orient, bool)) -> bool {
 
 #[test]
 fn designs_without_a_fault_are_accepted(rt: HostRuntime) {
-    for (texts, weights, x, y, orient, fixed) in &ACCEPTED {
+    for (texts, weights, x, y, orient, fixed) in ACCEPTED {
         let Some(Ok(design)) = join(rt.alloc(), texts) else {
             panic!(rt; "refused: {:?} {:?} {:?}", texts.wts, texts.pl, texts.scl);
         };
@@ -453,7 +447,7 @@ fn designs_without_a_fault_are_accepted(rt: HostRuntime) {
     }
 }
 
-const FAULTY: [(Texts, DesignFault); 20] = [
+const FAULTY: &[(Texts, DesignFault)] = &[
     // the first of two names that are given twice
     (
         Texts {
@@ -656,7 +650,7 @@ const FAULTY: [(Texts, DesignFault); 20] = [
 
 #[test]
 fn the_first_fault_is_named(rt: HostRuntime) {
-    for (texts, fault) in &FAULTY {
+    for (texts, fault) in FAULTY {
         assert!(rt; is_answered(rt.alloc(), texts, Some(*fault)), "{fault:?}");
     }
 }

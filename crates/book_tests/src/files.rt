@@ -41,7 +41,7 @@ type Faulty = (&'static [u8], u64, TextKind);
 /// A node's line, name, width, height, and whether it is fixed.
 type NodeRow = (u64, &'static [u8], i64, i64, bool);
 
-const NODES: [(&[u8], &[NodeRow]); 4] = [
+const NODES: &[(&[u8], &[NodeRow])] = &[
     (
         b"UCLA nodes 1.0\nNumNodes : 3\nNumTerminals : 2\na 2 10\nl 0 0 terminal\nr 0 0 terminal\n",
         &[
@@ -166,7 +166,7 @@ const FAULTY_NODES: [Faulty; 30] = [
 /// A weight's name and millionths.
 type WeightRow = (&'static [u8], i64);
 
-const WEIGHTS: [(&[u8], &[WeightRow]); 4] = [
+const WEIGHTS: &[(&[u8], &[WeightRow])] = &[
     (b"UCLA wts 1.0\nn0 2 7\n", &[(b"n0", 2_000_000)]),
     (b"UCLA wts 1.0\nn2 2\n", &[(b"n2", 2_000_000)]),
     (b"UCLA wts 1.0", &[]),
@@ -213,7 +213,7 @@ const FAULTY_WEIGHTS: [Faulty; 9] = [
 /// A place's line, name, coordinates, orientation, and whether it is fixed.
 type PlaceRow = (u64, &'static [u8], i64, i64, Orient, bool);
 
-const PLACES: [(&[u8], &[PlaceRow]); 3] = [
+const PLACES: &[(&[u8], &[PlaceRow])] = &[
     (
         b"UCLA pl 1.0\na 0 0 : N\nl 0 5 : N /FIXED\nr 10 5 : N /FIXED\n",
         &[
@@ -305,7 +305,7 @@ const FAULTY_PLACES: [Faulty; 20] = [
 /// The names of the nodes, nets, placement and rows files, and of the weights file.
 type Names = ([&'static str; 4], Option<&'static str>);
 
-const AUX: [(&[u8], Names); 3] = [
+const AUX: &[(&[u8], Names)] = &[
     (
         b"RowBasedPlacement : a.nodes a.nets a.pl a.scl\n",
         (["a.nodes", "a.nets", "a.pl", "a.scl"], None),
@@ -328,7 +328,7 @@ const AUX: [(&[u8], Names); 3] = [
 fn aux_files_are_read(rt: HostRuntime) {
     for (text, (names, wts)) in AUX {
         let file = read_aux(rt.alloc(), text).expect(&rt, "an aux file");
-        let is_read = [file.nodes, file.nets, file.pl, file.scl] == names && file.wts == wts;
+        let is_read = [file.nodes, file.nets, file.pl, file.scl] == *names && file.wts == *wts;
         assert!(rt; is_read, "{text:?}");
     }
 }

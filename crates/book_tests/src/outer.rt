@@ -1,3 +1,5 @@
+//! Tests of folders and sinks in memory, and of the real ones.
+
 ghost use Rattle.std.specs.Prelude.{◌<◌, length, IfOk};
 ghost use Rattle.book_outer.specs.Files.{AreNamesDistinct};
 
@@ -10,9 +12,10 @@ use std::alloc::Global;
 use std::fs;
 use std::test::Fail;
 
-const TWELVE: &[u8; 12] = b"twelve bytes";
+const TWELVE: &[u8] = b"twelve bytes";
 
-fn two_files(alloc: Global) -> Result<Files, Memory>
+/// Two files, named `a` and `b`.
+pub(crate) fn two_files(alloc: Global) -> Result<Files, Memory>
     ensures { IfOk result AreNamesDistinct }
 {
     let mut files = Files::new(alloc);
@@ -21,13 +24,14 @@ fn two_files(alloc: Global) -> Result<Files, Memory>
     Ok(files)
 }
 
-fn only(alloc: Global, number: u64) -> Result<Calls, Memory> {
+/// The number of the one call that fails.
+pub(crate) fn only(alloc: Global, number: u64) -> Result<Calls, Memory> {
     let mut calls = Calls::new(alloc);
     calls.push(number)?;
     Ok(calls)
 }
 
-// Reads a file in pieces.
+/// Reads a file in pieces.
 fn whole<F: Folder>(
     alloc: Global,
     folder: &mut F,
@@ -48,14 +52,14 @@ fn whole<F: Folder>(
     Ok(bytes)
 }
 
-// Makes a file in two pieces.
+/// Makes a file in two pieces.
 fn make_file<F: Folder>(folder: &mut F, name: &str) -> Result<(), Trouble> {
     folder.create(name)?;
     folder.put(b"one ")?;
     folder.put(b"two")
 }
 
-// Reads a little of `a`, and writes `b` anew.
+/// Reads a little of `a`, and writes `b` anew.
 fn four_calls<F: Folder>(folder: &mut F) -> Result<(), Trouble> {
     let mut buf = [0; 4];
     folder.begin("a")?;
@@ -64,7 +68,7 @@ fn four_calls<F: Folder>(folder: &mut F) -> Result<(), Trouble> {
     folder.put(b"new")
 }
 
-// Whether four calls, of which that one is to fail, answer so and leave these bytes in `b`.
+/// Whether four calls, of which that one is to fail, answer so and leave these bytes in `b`.
 fn is_left(
     alloc: Global,
     number: u64,
@@ -76,14 +80,14 @@ fn is_left(
     Ok(is_answer && folder.file("b") == Some(held) && folder.file("a") == Some(TWELVE))
 }
 
-// Whether `a` is read whole in pieces of that size, and there is no `c`.
+/// Whether `a` is read whole in pieces of that size, and there is no `c`.
 fn is_read<F: Folder>(alloc: Global, folder: &mut F, size: usize) -> Result<bool, Trouble>
     requires some { 0 < size }
     requires room { size < 17 }
 {
     let mut room = [0; 16];
     let bytes = whole(alloc, folder, "a", &mut room[..size])?;
-    Ok(bytes.as_slice() == TWELVE.as_slice() && folder.begin("c") == Err(Trouble::Failed))
+    Ok(bytes.as_slice() == TWELVE && folder.begin("c") == Err(Trouble::Failed))
 }
 
 #[test]
@@ -110,17 +114,23 @@ fn a_created_file_grows(rt: HostRuntime) -> Result<(), Fail> {
     Ok(())
 }
 
+/// Which of four calls fails, and what `b` holds afterwards.
+const FAILING: &[(u64, Result<(), Trouble>, &[u8])] = &[
+    (1, Err(Trouble::Failed), b"old"),
+    (2, Err(Trouble::Failed), b"old"),
+    (3, Err(Trouble::Failed), b"old"),
+    (4, Err(Trouble::Failed), b""),
+    (5, Ok(()), b"new"),
+];
+
 #[test]
 fn one_call_fails(rt: HostRuntime) -> Result<(), Fail> {
-    let alloc = rt.alloc();
-    for number in 1..4 {
+    for (number, answer, held) in FAILING {
         assert!(rt;
-            is_left(alloc, number, Err(Trouble::Failed), b"old")?,
+            is_left(rt.alloc(), *number, *answer, held)?,
             "call {number}"
         );
     }
-    assert!(rt; is_left(alloc, 4, Err(Trouble::Failed), b"")?);
-    assert!(rt; is_left(alloc, 5, Ok(()), b"new")?);
     Ok(())
 }
 
@@ -151,29 +161,18 @@ fn sinks_hold_what_was_put(rt: HostRuntime) -> Result<(), Fail> {
 }
 
 #[test]
-fn a_real_file_is_read_back(rt: HostRuntime) -> Result<(), Fail> {
+fn a_long_real_file_is_read_back(rt: HostRuntime) -> Result<(), Fail> {
     let name = "book_outer.test";
-    let mut folder = HostFolder::new(rt);
-    make_file(&mut folder, name)?;
-    let bytes = whole(rt.alloc(), &mut folder, name, &mut [0; 3])?;
-    assert!(rt; bytes.as_slice() == b"one two".as_slice());
-    fs::remove_file(&rt, name)?;
-    assert!(rt; folder.begin(name) == Err(Trouble::Failed));
-    assert!(rt; folder.create("no folder/of this name") == Err(Trouble::Failed));
-    StdSink::new(rt).put(b"to standard output")?;
-    Ok(())
-}
-
-#[test]
-fn a_long_put_writes_all_bytes(rt: HostRuntime) -> Result<(), Fail> {
-    let name = "book_outer_long.test";
     let long = vec![in rt.alloc(); b'x'; 100_000]?;
     let mut folder = HostFolder::new(rt);
     folder.create(name)?;
     folder.put(&long)?;
     let bytes = whole(rt.alloc(), &mut folder, name, &mut [0; 4_096])?;
     fs::remove_file(&rt, name)?;
-    assert_eq!(rt; bytes.len(), 100_000);
+    assert!(rt; bytes.as_slice() == long.as_slice());
+    assert!(rt; folder.begin(name) == Err(Trouble::Failed));
+    assert!(rt; folder.create("no folder/of this name") == Err(Trouble::Failed));
+    StdSink::new(rt).put(b"to standard output")?;
     Ok(())
 }
 
@@ -194,14 +193,16 @@ fn a_folder_is_not_read_as_a_file(rt: HostRuntime) -> Result<(), Fail> {
 
 #[test]
 fn a_blank_is_part_of_a_name(rt: HostRuntime) -> Result<(), Fail> {
+    let (name, other) = ("book_outer_blank.test ", "book_outer_blank.test");
     let mut folder = HostFolder::new(rt);
-    make_file(&mut folder, "book_outer_blank.test ")?;
-    assert!(rt; folder.begin("book_outer_blank.test") == Err(Trouble::Failed));
-    folder.begin("book_outer_blank.test ")?;
-    fs::remove_file(&rt, "book_outer_blank.test ")?;
-    fs::write(&rt, "book_outer_blank.test", b"another")?;
-    let answer = folder.begin("book_outer_blank.test ");
-    fs::remove_file(&rt, "book_outer_blank.test")?;
+    make_file(&mut folder, name)?;
+    assert!(rt; folder.begin(other) == Err(Trouble::Failed));
+    let bytes = whole(rt.alloc(), &mut folder, name, &mut [0; 3])?;
+    assert!(rt; bytes.as_slice() == b"one two".as_slice());
+    fs::remove_file(&rt, name)?;
+    fs::write(&rt, other, b"another")?;
+    let answer = folder.begin(name);
+    fs::remove_file(&rt, other)?;
     assert!(rt; answer == Err(Trouble::Failed));
     Ok(())
 }

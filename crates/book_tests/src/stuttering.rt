@@ -156,7 +156,16 @@ impl Files for Stuttering {
     }
 }
 
-/// The answers of reads until the first fault, each of a file that is opened anew where the one before was closed.
+/// A read's answer, the number of the last read, and how many share it: this test, the folder, and a file that is open. A
+/// file is opened anew where the one before was closed.
+const READS: &[(Result<usize, Trouble>, u8, usize)] = &[
+    (Ok(2), 1, 3),
+    (Ok(2), 3, 3),
+    (Err(Trouble::Failed), 4, 2),
+    (Err(Trouble::Memory), 5, 2),
+    (Ok(0), 6, 3),
+];
+
 #[test]
 fn reads_are_tried_again_until_a_fault(rt: HostRuntime) -> Result<(), Fail> {
     let calls = Rc::new(rt.alloc(), Cell::new(0))?;
@@ -164,23 +173,16 @@ fn reads_are_tried_again_until_a_fault(rt: HostRuntime) -> Result<(), Fail> {
         calls: calls.clone()?,
     });
     let mut buf = [0; 8];
-    // the number of the last read, and how many share it: this test, the folder, and a file that is open
-    for (answer, last, open) in [
-        (Ok(2), 1, 3),
-        (Ok(2), 3, 3),
-        (Err(Trouble::Failed), 4, 2),
-        (Err(Trouble::Memory), 5, 2),
-        (Ok(0), 6, 3),
-    ] {
+    for (answer, last, open) in READS {
         folder.begin("a")?;
-        assert!(rt; folder.read(&mut buf) == answer, "call {last}");
-        assert_eq!(rt; (calls.get(), Rc::strong_count(&calls)), (last, open));
+        assert!(rt; folder.read(&mut buf) == *answer, "call {last}");
+        assert_eq!(rt; (calls.get(), Rc::strong_count(&calls)), (*last, *open));
     }
     Ok(())
 }
 
 /// What is put into a file in pieces of three bytes. One that answers an error is closed.
-const PUTS: [(&[u8], Result<(), Trouble>, u8, usize); 3] = [
+const PUTS: &[(&[u8], Result<(), Trouble>, u8, usize)] = &[
     (b"six of", Ok(()), 3, 3),
     (b"six", Err(Trouble::Failed), 4, 2),
     (b"six", Err(Trouble::Memory), 5, 2),
@@ -194,8 +196,8 @@ fn pieces_are_put_until_a_fault(rt: HostRuntime) -> Result<(), Fail> {
     });
     for (bytes, answer, last, open) in PUTS {
         folder.create("a")?;
-        assert!(rt; folder.put(bytes) == answer, "call {last}");
-        assert_eq!(rt; (calls.get(), Rc::strong_count(&calls)), (last, open));
+        assert!(rt; folder.put(bytes) == *answer, "call {last}");
+        assert_eq!(rt; (calls.get(), Rc::strong_count(&calls)), (*last, *open));
     }
     Ok(())
 }
@@ -207,8 +209,8 @@ fn pieces_are_printed_until_a_fault(rt: HostRuntime) -> Result<(), Fail> {
         calls: calls.clone()?,
     });
     for (bytes, answer, last, _) in PUTS {
-        assert!(rt; sink.put(bytes) == answer, "call {last}");
-        assert_eq!(rt; calls.get(), last);
+        assert!(rt; sink.put(bytes) == *answer, "call {last}");
+        assert_eq!(rt; calls.get(), *last);
     }
     Ok(())
 }

@@ -6,7 +6,7 @@ use book_text::{
 };
 use std::test::Fail;
 
-const WORDS: [(&[u8], &[&[u8]]); 11] = [
+const WORDS: &[(&[u8], &[&[u8]])] = &[
     (b"", &[]),
     (b" \t \r", &[]),
     (b"a 2 10\r", &[b"a", b"2", b"10"]),
@@ -49,23 +49,28 @@ fn lines_are_cut_into_words(rt: HostRuntime) {
     }
 }
 
-/// A text's lines that aren't passed over, with their numbers.
-type Lines = (&'static [u8], &'static [(u64, &'static [u8])]);
+/// A text, how many lines it has, and those that aren't passed over, with their numbers.
+type Lines = (&'static [u8], u64, &'static [(u64, &'static [u8])]);
 
-const LINES: [Lines; 7] = [
-    (b"", &[]),
-    (b"\n\r\n \t\n", &[]),
-    (b"a", &[(1, b"a")]),
-    (b"a\n", &[(1, b"a")]),
+const LINES: &[Lines] = &[
+    (b"", 0, &[]),
+    (b"\n", 1, &[]),
+    (b"\n\r\n \t\n", 3, &[]),
+    (b"\n\n#", 3, &[]),
+    (b"a", 1, &[(1, b"a")]),
+    (b"a\n", 1, &[(1, b"a")]),
+    (b"a\r\nb", 2, &[(1, b"a\r"), (2, b"b")]),
     (
         b"UCLA pl 1.0\r\n\r\n a 4 0\r\n",
+        3,
         &[(1, b"UCLA pl 1.0\r"), (3, b" a 4 0\r")],
     ),
     (
         b"# one\n\t # two\n:#three\na # b\n#",
+        5,
         &[(3, b":#three"), (4, b"a # b")],
     ),
-    (b"a\n\n#\n\nb c", &[(1, b"a"), (5, b"b c")]),
+    (b"a\n\n#\n\nb c", 5, &[(1, b"a"), (5, b"b c")]),
 ];
 
 /// Whether the lines of the text that aren't passed over are these, walked one by one.
@@ -90,29 +95,15 @@ fn are_lines(text: &[u8], lines: &[(u64, &[u8])]) -> bool {
 
 #[test]
 fn texts_are_cut_into_lines(rt: HostRuntime) {
-    for (text, lines) in LINES {
-        assert!(rt; are_lines(text, lines), "{text:?}");
+    for (text, count, lines) in LINES {
+        assert!(rt;
+            count_lines(text) == *count && are_lines(text, lines),
+            "{text:?}"
+        );
     }
 }
 
-const COUNTS: [(&[u8], u64); 7] = [
-    (b"", 0),
-    (b"a", 1),
-    (b"\n", 1),
-    (b"a\n", 1),
-    (b"a\r\nb", 2),
-    (b"\n\n# c\n", 3),
-    (b"\n\n#", 3),
-];
-
-#[test]
-fn lines_are_counted(rt: HostRuntime) {
-    for (text, lines) in COUNTS {
-        assert!(rt; count_lines(text) == lines, "{text:?}");
-    }
-}
-
-const WHOLES: [(&[u8], Result<u64, NumberFault>); 12] = [
+const WHOLES: &[(&[u8], Result<u64, NumberFault>)] = &[
     (b"0", Ok(0)),
     (b"007", Ok(7)),
     (b"1000000", Ok(1_000_000)),
@@ -136,79 +127,77 @@ const WHOLES: [(&[u8], Result<u64, NumberFault>); 12] = [
 #[test]
 fn whole_words_have_values(rt: HostRuntime) {
     for (word, value) in WHOLES {
-        assert!(rt; read_whole(word) == value, "{word:?}");
+        assert!(rt; read_whole(word) == *value, "{word:?}");
     }
 }
 
-const DECIMALS: [(&[u8], i64); 20] = [
-    (b".5", 500_000),
-    (b"5.", 5_000_000),
-    (b"0.0000019", 1),
-    (b"-0.0000009", 0),
-    (b"1e6", 1_000_000_000_000),
-    (b"-1000000", -1_000_000_000_000),
-    (b"1000000.0000009", 1_000_000_000_000),
-    (b"-1000000.0000009", -1_000_000_000_000),
-    (b"0e99", 0),
-    (b"-0", 0),
-    (b"+18", 18_000_000),
-    (b"-12.345678", -12_345_678),
-    (b"1e+01", 10_000_000),
-    (b"25E-1", 2_500_000),
-    (b"1.5e-000000000000000000000009", 0),
-    (b"0.000000000000000000000002e9", 0),
-    (b"0.0000000000000000000000002e23", 20_000),
-    (b"999999999999999999999999e-20", 9_999_999_999),
-    (b"9e-99999999999999999999999999", 0),
-    (b"000000000000000000000000000042", 42_000_000),
-];
-
-const FAR_DECIMALS: [&[u8]; 6] = [
-    b"1000000.000001",
-    b"-1000000.000001",
-    b"1e7",
-    b"1e99999999999999999999999999",
-    b"0.0000000000000000000000002e32",
-    b"999999999999999999999999999999",
-];
-
-const NO_DECIMALS: [&[u8]; 17] = [
-    b"",
-    b"+",
-    b".",
-    b"-.",
-    b"1e",
-    b"1e+",
-    b".e5",
-    b"e5",
-    b"%50",
-    b"1.2.3",
-    b"1e2e3",
-    b"1e2.0",
-    b"+-1",
-    b"1 ",
-    b"0x10",
-    b"12a",
-    b"0000000000000000000000000000042",
+/// Words, and the decimals that they are.
+const DECIMALS: &[(&[u8], Result<Micro, NumberFault>)] = &[
+    (b".5", Ok(Micro(500_000))),
+    (b"5.", Ok(Micro(5_000_000))),
+    (b"0.0000019", Ok(Micro(1))),
+    (b"-0.0000009", Ok(Micro(0))),
+    (b"1e6", Ok(Micro(1_000_000_000_000))),
+    (b"-1000000", Ok(Micro(-1_000_000_000_000))),
+    (b"1000000.0000009", Ok(Micro(1_000_000_000_000))),
+    (b"-1000000.0000009", Ok(Micro(-1_000_000_000_000))),
+    (b"0e99", Ok(Micro(0))),
+    (b"-0", Ok(Micro(0))),
+    (b"+18", Ok(Micro(18_000_000))),
+    (b"-12.345678", Ok(Micro(-12_345_678))),
+    (b"1e+01", Ok(Micro(10_000_000))),
+    (b"25E-1", Ok(Micro(2_500_000))),
+    (b"1.5e-000000000000000000000009", Ok(Micro(0))),
+    (b"0.000000000000000000000002e9", Ok(Micro(0))),
+    (b"0.0000000000000000000000002e23", Ok(Micro(20_000))),
+    (b"999999999999999999999999e-20", Ok(Micro(9_999_999_999))),
+    (b"9e-99999999999999999999999999", Ok(Micro(0))),
+    (b"000000000000000000000000000042", Ok(Micro(42_000_000))),
+    (b"1000000.000001", Err(NumberFault::OutOfRange)),
+    (b"-1000000.000001", Err(NumberFault::OutOfRange)),
+    (b"1e7", Err(NumberFault::OutOfRange)),
+    (
+        b"1e99999999999999999999999999",
+        Err(NumberFault::OutOfRange),
+    ),
+    (
+        b"0.0000000000000000000000002e32",
+        Err(NumberFault::OutOfRange),
+    ),
+    (
+        b"999999999999999999999999999999",
+        Err(NumberFault::OutOfRange),
+    ),
+    (b"", Err(NumberFault::NotNumber)),
+    (b"+", Err(NumberFault::NotNumber)),
+    (b".", Err(NumberFault::NotNumber)),
+    (b"-.", Err(NumberFault::NotNumber)),
+    (b"1e", Err(NumberFault::NotNumber)),
+    (b"1e+", Err(NumberFault::NotNumber)),
+    (b".e5", Err(NumberFault::NotNumber)),
+    (b"e5", Err(NumberFault::NotNumber)),
+    (b"%50", Err(NumberFault::NotNumber)),
+    (b"1.2.3", Err(NumberFault::NotNumber)),
+    (b"1e2e3", Err(NumberFault::NotNumber)),
+    (b"1e2.0", Err(NumberFault::NotNumber)),
+    (b"+-1", Err(NumberFault::NotNumber)),
+    (b"1 ", Err(NumberFault::NotNumber)),
+    (b"0x10", Err(NumberFault::NotNumber)),
+    (b"12a", Err(NumberFault::NotNumber)),
+    (
+        b"0000000000000000000000000000042",
+        Err(NumberFault::NotNumber),
+    ),
 ];
 
 #[test]
 fn decimals_have_values_or_faults(rt: HostRuntime) {
     for (word, value) in DECIMALS {
-        assert!(rt; read_micro(word) == Ok(Micro(value)), "{word:?}");
-    }
-    for word in FAR_DECIMALS {
-        assert!(rt;
-            read_micro(word) == Err(NumberFault::OutOfRange),
-            "{word:?}"
-        );
-    }
-    for word in NO_DECIMALS {
-        assert!(rt; read_micro(word) == Err(NumberFault::NotNumber), "{word:?}");
+        assert!(rt; read_micro(word) == *value, "{word:?}");
     }
 }
 
-const WRITTEN: [(i128, &[u8]); 10] = [
+const WRITTEN: &[(i128, &[u8])] = &[
     (0, b"X 0"),
     (-500_000, b"X -0.5"),
     (500_000, b"X 0.5"),
@@ -225,8 +214,8 @@ const WRITTEN: [(i128, &[u8]); 10] = [
 fn decimals_are_written(rt: HostRuntime) -> Result<(), Fail> {
     for (value, text) in WRITTEN {
         let mut out = b"X ".to_vec(rt.alloc())?;
-        put_micro(&mut out, value)?;
-        assert!(rt; out.as_slice() == text, "{value}");
+        put_micro(&mut out, *value)?;
+        assert!(rt; out.as_slice() == *text, "{value}");
     }
     Ok(())
 }

@@ -8,7 +8,7 @@ type PinRow = (u64, &'static [u8], i64, i64);
 /// A net's name and pins.
 type NetRow = (Option<&'static [u8]>, &'static [PinRow]);
 
-const NETS: [(&[u8], &[NetRow]); 5] = [
+const NETS: &[(&[u8], &[NetRow])] = &[
     (
         b"UCLA nets 1.0\nNumNets : 2\nNumPins : 4\nNetDegree : 2 n0\nl B\na B\n\
             NetDegree : 2 n1\na B\nr B\n",

@@ -8,7 +8,7 @@ type SubrowRow = (i64, u64);
 /// A row's coordinate, height and pitch in millionths, and its subrows.
 type RowRow = (i64, i64, i64, &'static [SubrowRow]);
 
-const ROWS: [(&[u8], &[RowRow]); 5] = [
+const ROWS: &[(&[u8], &[RowRow])] = &[
     (
         b"UCLA scl 1.0\nNumRows : 1\nCoreRow Horizontal\n Coordinate : 0\n Height : 10\n\
             \x20Sitewidth : 1\n Sitespacing : 1\n SubrowOrigin : 0 NumSites : 10\nEnd\n",
