@@ -54,6 +54,21 @@ pub(crate) const THREE_PADS: Texts = Texts {
     ..ONE_CELL
 };
 
+/// One cell between two terminals with other spellings, an offset, and a second row without sites.
+pub(crate) const SPELT_ANEW: Texts = Texts {
+    nodes: b"UCLA nodes 1.0\r\n# a comment\r\nnumnodes: 3\r\nNumTerminals : 2\r\na 2 10\r\n\
+        l 0 0 terminal\r\nr 0 0 terminal\r\n",
+    nets: b"UCLA nets 1.0\r\n# a comment\r\nNumNets : 2\r\nNumPins : 4\r\nNetDegree : 2 n0\r\n\
+        l B : -0.500000 0.0\r\na B\r\nNetDegree : 2 n1\r\na B\r\nr B\r\n",
+    pl: b"UCLA pl 1.0\r\n# a comment\r\na 0 0 : N\r\nl 0 5 : N /FIXED\r\n\
+        r 1e+01 5.000000 : n /fixed\r\n",
+    scl: b"UCLA scl 1.0\r\n# a comment\r\nNumRows : 2\r\nCoreRow Horizontal\r\n Coordinate : 0\r\n\
+        Height : 10\r\n Sitewidth : 1\r\n Sitespacing : 1\r\n\
+        SubrowOrigin : 0 NumSites : 10\r\nEnd\r\ncorerow horizontal\r\ncoordinate: 10\r\n\
+        height: 10\r\nsitewidth: 1\r\nsubroworigin: 0 numsites: 0\r\nend\r\n",
+    ..ONE_CELL
+};
+
 /// One terminal, and no net.
 pub(crate) const NO_CELL: Texts = Texts {
     nodes: b"UCLA nodes 1.0\nNumNodes : 1\nNumTerminals : 1\np 0 0 terminal\n",

@@ -327,7 +327,7 @@ fn points_that_are_too_heavy_are_named(rt: HostRuntime) -> Result<(), Fail> {
     Ok(())
 }
 
-/// One net of two cells and so many pads, all at one place.
+/// One net of two cells and so many pads, all at one place, solved without a cut.
 fn assert_many_pads<R: Threads + Abort + Sync>(
     rt: &R,
     alloc: Global,
@@ -350,19 +350,23 @@ fn assert_many_pads<R: Threads + Abort + Sync>(
     };
     let file = lines_of(
         alloc,
-        "UCLA pl 1.0\na 0 0 : N\nb 4 0 : N\n",
+        "UCLA pl 1.0\na 0 0 : N\nb 2 0 : N\n",
         "p",
         " 0 5 : N /FIXED",
         pads,
     )?;
-    assert_case(rt, alloc, end.of(texts, file.as_slice()))
+    let case = Case {
+        words: &["proud", "--levels", "0", "a.aux"],
+        ..end.of(texts, file.as_slice())
+    };
+    assert_case(rt, alloc, case)
 }
 
 #[test]
 fn nets_that_are_too_wide_are_named(rt: HostRuntime) -> Result<(), Fail> {
     let narrow = End {
         status: Status::Done,
-        report: b"cells 2 terminals 510 nets 1 pins 512\nlevels 4 gap 2\n",
+        report: b"cells 2 terminals 510 nets 1 pins 512\nlevels 0 gap 2\n",
     };
     assert_many_pads(&rt, rt.alloc(), 510, narrow)?;
     let wide = End {

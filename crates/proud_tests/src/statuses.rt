@@ -11,8 +11,9 @@ use std::test::Fail;
 /// A design, the text of its placement, and its report.
 type Run = (Texts<'static>, &'static [u8], &'static [u8]);
 
-const PLACED: [Run; 9] = [
+const PLACED: [Run; 10] = [
     (ONE_CELL, MIDDLE, MIDDLE_REPORT),
+    (SPELT_ANEW, MIDDLE, MIDDLE_REPORT),
     (
         THREE_PADS,
         b"UCLA pl 1.0\na 2 0 : N\nl 0 5 : N /FIXED\nr 10 5 : N /FIXED\nm 0 5 : N /FIXED\n",

@@ -28,7 +28,7 @@ pub(crate) const WIDE: [Row; 2] = [
 
 /// The points of these rows.
 pub(crate) fn points_of(alloc: Global, rows: &[Row]) -> Result<Points, Memory> {
-    let mut points = Points::new(alloc);
+    let mut points = Points::with_capacity(alloc, rows.len())?;
     for (lo, hi, entries, anchor, anchored) in rows {
         points.push(Point {
             lo: *lo,
@@ -43,7 +43,7 @@ pub(crate) fn points_of(alloc: Global, rows: &[Row]) -> Result<Points, Memory> {
 
 /// Neighbours with weights.
 fn near_of(alloc: Global, entries: &[(u32, u64)]) -> Result<NearList, Memory> {
-    let mut near = NearList::new(alloc);
+    let mut near = NearList::with_capacity(alloc, entries.len())?;
     for (point, weight) in entries {
         near.push(Near {
             point: *point,
