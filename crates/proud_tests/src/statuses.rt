@@ -1,8 +1,8 @@
 //! How runs end: placed, refused, or with a fault of the outside. All expected texts were worked out by hand.
 
 use crate::designs::{
-    A, Case, MIDDLE, MIDDLE_REPORT, NO_CELL, NO_WORDS, ONE_CELL, TALL_CELL, THREE_PADS, TWO_CELLS,
-    Texts, USUAL, WEIGHTED, assert_case, files_below, files_without, placed, words_of,
+    A, Case, MIDDLE, MIDDLE_REPORT, NO_CELL, NO_WORDS, ONE_CELL, SPELT_ANEW, TALL_CELL, THREE_PADS,
+    TWO_CELLS, Texts, USUAL, WEIGHTED, assert_case, files_below, files_without, placed, words_of,
 };
 use book_outer::{Calls, MemFolder, MemSink, OpenGate};
 use proud_top::{FileKind, Status, proud};
