@@ -1,0 +1,3 @@
+pub mod Wire
+pub mod Rectangles
+pub mod Report
