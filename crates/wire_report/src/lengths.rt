@@ -1,12 +1,15 @@
 //! The half-perimeter wire length.
 
-ghost use Rattle.std.specs.Prelude.{◌≡◌, ◌%◌, ◌+◌, ◌^◌, ◌<◌, ◌≤◌, length, All, IfOk};
+ghost use Rattle.std.specs.Prelude.{◌≡◌, ◌%◌, ◌+◌, ◌^◌, ◌<◌, length, pos, ◌≤ℤ◌, ◌+ℤ◌, All, IfOk};
 ghost use Rattle.std.specs.List.{AllByRecursion};
 ghost use Rattle.book_design.specs.Nets.{net_value};
 ghost use Rattle.book_design.specs.WellFormed.{IsDesign, IsGoodPin};
-ghost use Rattle.wire_report.specs.Wire.{IsNearCorner, pin_x, pin_y, net_length, wire_length};
+ghost use Rattle.book_text.specs.Coordinates.{IsMicro};
+ghost use Rattle.wire_report.specs.Wire.{IsNearCorner, half, pin_x, pin_y, net_length, wire_length};
+ghost use Rattle.wire_report.specs.Forms.Extents.{IsNear};
 
 use crate::corner::Corner;
+use crate::extent::Extent;
 use book_design::{Design, Net, Pin};
 use book_text::Memory;
 use rayon::prelude::*;
@@ -68,30 +71,42 @@ fn net_length(design: &Design<'_>, corners: &[Corner], net: &Net) -> u64
         return 0;
     };
     let spot = spot_of(design, corners, first);
-    let (mut left, mut right) = (spot.x, spot.x);
-    let (mut lower, mut upper) = (spot.y, spot.y);
+    let mut across = Extent::of(spot.x);
+    let mut up = Extent::of(spot.y);
     for pin in others {
         let spot = spot_of(design, corners, pin);
-        left = left.min(spot.x);
-        right = right.max(spot.x);
-        lower = lower.min(spot.y);
-        upper = upper.max(spot.y);
+        across = across.with(spot.x);
+        up = up.with(spot.y);
     }
-    (right - left) as u64 + (upper - lower) as u64
+    across.spread() + up.spread()
 }
 
-/// Where a pin stands: at its node's centre plus its offset.
+/// Where a pin stands.
 fn spot_of(design: &Design<'_>, corners: &[Corner], pin: &Pin) -> Spot
     requires pin { IsGoodPin (length design.now.nodes) pin.now }
     requires each { length corners.now ≡ length design.now.nodes }
     requires near { All IsNearCorner corners.now }
     ensures x { result.x ≡ pin_x design.now corners.now pin.now }
     ensures y { result.y ≡ pin_y design.now corners.now pin.now }
+    ensures x_near { IsNear result.x }
+    ensures y_near { IsNear result.y }
 {
     let node = &design.nodes()[pin.node as usize];
     let corner = corners[pin.node as usize];
     Spot {
-        x: corner.x + node.width / 2 + pin.dx,
-        y: corner.y + node.height / 2 + pin.dy,
+        x: beside_centre(corner.x, node.width, pin.dx),
+        y: beside_centre(corner.y, node.height, pin.dy),
     }
+}
+
+/// Where an offset from the centre of a length leads that begins at a corner. Half of the length is rounded down.
+fn beside_centre(corner: i64, size: i64, offset: i64) -> i64
+    requires corner { IsMicro corner }
+    requires size { IsMicro size }
+    requires sign { pos 0 ≤ℤ size }
+    requires offset { IsMicro offset }
+    ensures place { result ≡ corner +ℤ half size +ℤ offset }
+    ensures near { IsNear result }
+{
+    corner + (size.unsigned_abs() / 2) as i64 + offset
 }

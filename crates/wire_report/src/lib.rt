@@ -8,6 +8,7 @@
 #![tactic(auto)]
 
 mod corner;
+mod extent;
 mod laws;
 mod lengths;
 mod report;
