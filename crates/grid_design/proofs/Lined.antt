@@ -1,5 +1,5 @@
 -- A line of words, written word by word.
-use Rattle.std.proofs.Common.{◌≡◌, ℕ, zero, suc, ◌+◌, ◌-◌, ◌<◌, ◌≤◌, List, [], ◌∷◌, ◌++◌, length, get_or, take, drop, map, refl, sym, ◌∙◌, ap, append_assoc, arith}
+use Rattle.std.proofs.Common.{◌≡◌, ℕ, zero, suc, ◌-◌, ◌≤◌, List, [], ◌∷◌, ◌++◌, length, get_or, take, drop, map, refl, sym, ◌∙◌, ap, append_assoc, arith}
 use Rattle.std.specs.List.{flat_map}
 use Rattle.std.proofs.lemmas.List.{append-nil}
 use Rattle.std.proofs.lemmas.List.Folds.{flat_map-map}
@@ -30,6 +30,6 @@ line_written [] word k old one now new some first all others end = absurd (omega
 line_written (w ∷ ws) word k old one now new some first all others end =
     let rest : take k (take (length (w ∷ ws) - 1) ws) ≡ ws = take_all k (take (length (w ∷ ws) - 1) ws) all ∙ take_all (length (w ∷ ws) - 1) ws (omega arith) in
     let text : now ≡ old ++ spaced (map word_text (w ∷ ws)) =
-        others ∙ ap (λ vs. one ++ flat_map (λ v. 32 ∷ word_text v) vs) rest ∙ ap (λ t. t ++ flat_map (λ v. 32 ∷ word_text v) ws) first
-        ∙ append_assoc old (word_text w) (flat_map (λ v. 32 ∷ word_text v) ws) ∙ ap (λ t. old ++ t) (sym (words_of w ws)) in
+    others ∙ ap (λ vs. one ++ flat_map (λ v. 32 ∷ word_text v) vs) rest ∙ ap (λ t. t ++ flat_map (λ v. 32 ∷ word_text v) ws) first
+    ∙ append_assoc old (word_text w) (flat_map (λ v. 32 ∷ word_text v) ws) ∙ ap (λ t. old ++ t) (sym (words_of w ws)) in
     end ∙ ap (λ t. t ++ 10 ∷ []) text ∙ append_assoc old (spaced (map word_text (w ∷ ws))) (10 ∷ [])

@@ -1,5 +1,5 @@
 -- Nets that are appended one by one.
-use Rattle.std.proofs.Common.{◌≡◌, ℕ, List, [], ◌∷◌, ◌++◌, refl, ◌∙◌, ap}
+use Rattle.std.proofs.Common.{◌≡◌, List, [], ◌∷◌, ◌++◌, ◌∙◌, ap}
 use Rattle.grid_design.specs.declared.parts.Node.{Node}
 use Rattle.grid_design.specs.declared.parts.Net.{Net}
 use Rattle.grid_design.specs.Parts.{net_of}

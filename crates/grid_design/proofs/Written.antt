@@ -1,5 +1,5 @@
 -- Texts that are written line by line.
-use Rattle.std.proofs.Common.{◌≡◌, ℕ, suc, ◌+◌, ◌*◌, ◌/◌, ◌%◌, ◌^◌, ◌<◌, ◌≤◌, List, [], ◌∷◌, ◌++◌, length, get_or, take, codes, decimal, refl, sym, ◌∙◌, ap, append_assoc, add-one, arith}
+use Rattle.std.proofs.Common.{◌≡◌, ℕ, suc, ◌+◌, ◌*◌, ◌/◌, ◌%◌, ◌^◌, ◌<◌, ◌≤◌, List, [], ◌∷◌, ◌++◌, length, get_or, take, codes, decimal, sym, ◌∙◌, ap, append_assoc, arith}
 use Rattle.std.specs.Prelude.{Result, OnOk}
 use Rattle.std.specs.List.{flat_map, range_with_len}
 use Rattle.std.proofs.lemmas.List.{append-nil, take_more, length-take-le}
@@ -36,7 +36,7 @@ pub nodes_written : (grid : Grid) (nodes : List Node) (k cells terminals : ℕ) 
     → new ≡ nodes_text grid
 nodes_written grid nodes k cells terminals a b c new nodes_are all cells_are terminals_are at_a at_b at_c at_new =
     let to_b : b ≡ a ++ stated (codes "NumNodes") (cell_count grid + terminal_count grid) =
-        at_b ∙ ap (λ n. a ++ stated (codes "NumNodes") (n + terminals)) cells_are ∙ ap (λ n. a ++ stated (codes "NumNodes") (cell_count grid + n)) terminals_are in
+    at_b ∙ ap (λ n. a ++ stated (codes "NumNodes") (n + terminals)) cells_are ∙ ap (λ n. a ++ stated (codes "NumNodes") (cell_count grid + n)) terminals_are in
     let to_c : c ≡ b ++ stated (codes "NumTerminals") (terminal_count grid) = at_c ∙ ap (λ n. b ++ stated (codes "NumTerminals") n) terminals_are in
     at_new ∙ ap (λ xs. c ++ flat_map node_line xs) (take_all k nodes all ∙ nodes_are)
     ∙ ap (λ text. text ++ flat_map node_line (nodes_of grid)) (to_c ∙ ap (λ text. text ++ stated (codes "NumTerminals") (terminal_count grid)) (to_b ∙ ap (λ text. text ++ stated (codes "NumNodes") (cell_count grid + terminal_count grid)) at_a))
@@ -55,9 +55,9 @@ pub net_lines_more : (nets : List Net) (i : ℕ) (net : Net) (old now new : List
 net_lines_more nets i net old now new there before put =
     let number : 0 + length (take i nets) ≡ i = omega (arith, length-take-le i nets (omega arith)) in
     let more : net_lines_from 0 (take (i + 1) nets) ≡ net_lines_from 0 (take i nets) ++ net_lines i (get_or nets i net) =
-        ap (net_lines_from 0) (take_more nets i net there) ∙ net_lines_from-append 0 (take i nets) (get_or nets i net ∷ [])
-        ∙ ap (λ m. net_lines_from 0 (take i nets) ++ net_lines_from m (get_or nets i net ∷ [])) number
-        ∙ ap (λ text. net_lines_from 0 (take i nets) ++ text) (append-nil (net_lines i (get_or nets i net))) in
+    ap (net_lines_from 0) (take_more nets i net there) ∙ net_lines_from-append 0 (take i nets) (get_or nets i net ∷ [])
+    ∙ ap (λ m. net_lines_from 0 (take i nets) ++ net_lines_from m (get_or nets i net ∷ [])) number
+    ∙ ap (λ text. net_lines_from 0 (take i nets) ++ text) (append-nil (net_lines i (get_or nets i net))) in
     behind old (net_lines_from 0 (take i nets)) (net_lines i (get_or nets i net)) now new before put ∙ ap (λ text. old ++ text) (sym more)
 
 -- the next state, and the line of the weight that it gives

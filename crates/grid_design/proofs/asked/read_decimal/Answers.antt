@@ -1,5 +1,5 @@
-use Rattle.std.proofs.Common.{rules, ◌≡◌, ◌<◌, ◌^◌, ◌≤◌, List, ℕ, MatchOption, decimal, [], ◌∷◌, true, false, refl, eq-eqb, ap, ◌∙◌, sym}
-use Rattle.std.specs.Prelude.{Option, Some, None, Ok, bytes_eq}
+use Rattle.std.proofs.Common.{◌≡◌, List, ℕ, decimal, [], ◌∷◌, true, false, refl, eq-eqb, ap, ◌∙◌, sym}
+use Rattle.std.specs.Prelude.{Some, Ok, bytes_eq}
 use Rattle.std.specs.Result.{result_ok}
 use Rattle.std.proofs.lemmas.Fmt.{parse-decimal}
 use Rattle.grid_design.proofs.asked.read_decimal.Goals as goal

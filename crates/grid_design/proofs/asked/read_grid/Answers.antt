@@ -1,5 +1,4 @@
-use Rattle.std.proofs.Common.{Bor, List, ℕ, ◌≡◌, ◌∷◌, ◌++◌, decimal}
-use Rattle.std.specs.Prelude.{Option, Some, None}
+use Rattle.std.specs.Prelude.{Some, None}
 use Rattle.grid_design.specs.Asked.{IsGridWord}
 use Rattle.grid_design.proofs.Commas.{first_cut, second_cut}
 use Rattle.grid_design.proofs.asked.read_grid.Goals as goal

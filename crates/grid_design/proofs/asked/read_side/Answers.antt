@@ -1,6 +1,5 @@
-use Rattle.std.proofs.Common.{◌≡◌, ◌<◌, ◌^◌, ◌≤◌, List, ℕ, MatchOption, decimal, sym, ◌∙◌, arith}
+use Rattle.std.proofs.Common.{◌≡◌, ◌<◌, ◌^◌, sym, ◌∙◌, arith}
 use Rattle.std.proofs.lemmas.Fmt.{decimal_injective}
-use Rattle.grid_design.specs.Asked.{IsSide}
 use Rattle.grid_design.proofs.asked.read_side.Goals as goal
 use Rattle.grid_design.proofs.asked.read_side.Goals.{else-side-ge1-via-then-side-ge1+else-side-from, else-side-ge1-via-else-side-ge1}
 

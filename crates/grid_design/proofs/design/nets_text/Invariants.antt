@@ -1,6 +1,4 @@
 use Rattle.std.proofs.Common.{◌≡◌, ◌++◌, take}
-use Rattle.std.specs.List.{flat_map, range_with_len}
-use Rattle.grid_design.specs.Weights.{state}
 use Rattle.grid_design.specs.Texts.{net_lines_from}
 use Rattle.grid_design.proofs.design.nets_text.Given as goal
 

@@ -1,4 +1,4 @@
-use Rattle.std.proofs.Common.{◌≡◌, arith, rules}
+use Rattle.std.proofs.Common.{arith, rules}
 use Rattle.grid_design.proofs.Written.{nodes_written}
 use Rattle.grid_design.proofs.design.nodes_text.Goals as goal
 

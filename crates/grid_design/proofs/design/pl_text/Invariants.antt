@@ -1,6 +1,5 @@
 use Rattle.std.proofs.Common.{◌≡◌, ◌++◌, take}
-use Rattle.std.specs.List.{flat_map, range_with_len}
-use Rattle.grid_design.specs.Weights.{state}
+use Rattle.std.specs.List.{flat_map}
 use Rattle.grid_design.specs.Texts.{place_line}
 use Rattle.grid_design.proofs.design.pl_text.Given as goal
 

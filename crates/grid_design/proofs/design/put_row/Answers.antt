@@ -1,5 +1,4 @@
-use Rattle.std.proofs.Common.{◌≡◌, ◌*◌, ap, ◌∙◌, rules}
-use Rattle.grid_design.specs.declared.parts.TheConstants.{ROW_HEIGHT, COLUMN_SITES}
+use Rattle.std.proofs.Common.{rules}
 use Rattle.grid_design.proofs.Written.{row_written}
 use Rattle.grid_design.proofs.design.put_row.Goals as goal
 

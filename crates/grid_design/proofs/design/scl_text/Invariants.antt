@@ -1,6 +1,5 @@
-use Rattle.std.proofs.Common.{◌≡◌, ◌++◌, take}
+use Rattle.std.proofs.Common.{◌≡◌, ◌++◌}
 use Rattle.std.specs.List.{flat_map, range_with_len}
-use Rattle.grid_design.specs.Weights.{state}
 use Rattle.grid_design.specs.Texts.{row_lines}
 use Rattle.grid_design.proofs.design.scl_text.Given as goal
 

@@ -1,4 +1,4 @@
-use Rattle.std.proofs.Common.{◌≡◌, ◌++◌, suc, add-one}
+use Rattle.std.proofs.Common.{◌≡◌, suc, add-one}
 use Rattle.grid_design.specs.Weights.{state}
 use Rattle.grid_design.proofs.Written.{state_more, weights_more}
 use Rattle.grid_design.proofs.design.wts_text.Goals as goal

@@ -1,6 +1,5 @@
-use Rattle.std.proofs.Common.{◌≡◌, ◌+◌, ◌++◌, map, refl}
-use Rattle.grid_design.specs.declared.parts.Node.TheVariants.{Terminal}
-use Rattle.grid_design.specs.Parts.{net_of, cell_at, cell_beside}
+use Rattle.std.proofs.Common.{◌+◌}
+use Rattle.grid_design.specs.Parts.{net_of, cell_at}
 use Rattle.grid_design.proofs.Appended.{pushed_more}
 use Rattle.grid_design.proofs.Wired.{net_pushed}
 use Rattle.grid_design.proofs.wiring.push_along.Goals as goal

@@ -1,7 +1,7 @@
-use Rattle.std.proofs.Common.{◌≡◌, ◌+◌, ◌++◌, map}
+use Rattle.std.proofs.Common.{◌≡◌, ◌++◌, map}
 use Rattle.std.specs.List.{range_with_len}
 use Rattle.grid_design.specs.declared.parts.Node.TheVariants.{Terminal}
-use Rattle.grid_design.specs.Parts.{net_of, cell_at, cell_beside}
+use Rattle.grid_design.specs.Parts.{net_of, cell_beside}
 use Rattle.grid_design.proofs.wiring.push_beside.Given as goal
 
 abbrev pub invariant-loop-number : goal.invariant-loop-number
