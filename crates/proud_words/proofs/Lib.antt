@@ -1,0 +1,6 @@
+mod Taking
+mod Passing
+mod Taken
+mod Answering
+mod One
+mod Stems
