@@ -1,1 +1,5 @@
-pub mod GridWord
+pub mod Asked
+pub mod Parts
+pub mod Weights
+pub mod Texts
+pub mod Forms

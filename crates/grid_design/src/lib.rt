@@ -1,34 +1,22 @@
-//! A stand-in for the crate of this name: it knows the one word `2,3,1`.
+//! The texts of a generated design: cells in rows and columns, a terminal at each end of each row and column, and nets
+//! between neighbours, with weights that a number gives.
+//!
+//! What comes in is a word that asks for a grid, and then the grid; what goes out are the five texts of its design, byte for
+//! byte. It knows no files and no rules of a design.
+//!
+//! The contract: `read_grid` answers by `IsGridWord`, which names one grid at most (`one_grid`), and `grid_texts` makes the
+//! texts of `AreTextsOf`.
 #![tactic(auto)]
 
-ghost use Rattle.std.specs.Prelude.{◌≡◌, List, ℕ, MatchOption};
-ghost use Rattle.grid_design.specs.GridWord.{IsGridWord};
-ghost use Rattle.grid_design.specs.declared.Grid.{Grid};
+mod asked;
+mod design;
+mod line;
+mod listing;
+mod parts;
+mod weights;
+mod wiring;
 
-/// A grid of blocks.
-#[derive(Clone, Copy, Debug, PartialEq, Eq)]
-pub struct Grid {
-    pub rows: u32,
-    pub columns: u32,
-    pub number: u64,
-}
-
-/// The grid that a word names.
-pub fn read_grid(word: &str) -> Option<Grid>
-    ensures { MatchOption result ((grid : Grid) → IsGridWord word.now grid → ⊥) (λ grid. IsGridWord word.now grid) }
-{
-    if word == "2,3,1" {
-        Some(Grid {
-            rows: 2,
-            columns: 3,
-            number: 1,
-        })
-    } else {
-        None
-    }
-}
-
-/// A word is that of one grid at most.
-pub fn one_grid()
-    ensures { (word : List ℕ) (a b : Grid) → IsGridWord word a → IsGridWord word b → a ≡ b }
-{}
+pub use asked::{Grid, MOST_SIDE, one_grid, read_grid};
+pub use design::{Texts, grid_texts};
+pub use parts::{CELL_WIDTH, COLUMN_SITES, ROW_HEIGHT};
+pub use weights::{INCREMENT, MULTIPLIER, SPREAD, WEIGHTS};

@@ -2,8 +2,8 @@
 use Rattle.std.proofs.Common.{◌≡◌, ◌∙◌, ◌≤◌, sym, ap, ap₂, refl, arith, List, Option, Some, None}
 use Rattle.std.specs.Prelude.{ℕ, IfSome, codes, unwrap_or, option_map}
 use Rattle.clap.specs.Words.{IsUnsignedIn, Row, first_of, matches_of}
-use Rattle.grid_design.specs.declared.Grid.{Grid}
-use Rattle.grid_design.specs.GridWord.{IsGridWord}
+use Rattle.grid_design.specs.declared.asked.Grid.{Grid}
+use Rattle.grid_design.specs.Asked.{IsGridWord}
 use Rattle.relax_crew.specs.Crew.{IsCrewSize}
 use Rattle.relax_crew.specs.declared.range.TheConstants.{MOST_SEATS}
 use Rattle.level_run.specs.declared.hierarchy.TheConstants.{MOST_LEVELS}

@@ -2,8 +2,8 @@
 use Rattle.std.specs.Prelude.{◌≡◌, true, ℕ, ◌-◌, List, ◌++◌, length, take, drop, codes, bytes_eq, if◌then◌else◌, Option, Some, None, unwrap_or, option_map, string_bytes}
 use Rattle.std.specs.Str.Parse.{digits_value, without_leading_plus}
 use Rattle.clap.specs.Words.{Row, first_of, matches_of, takes}
-use Rattle.grid_design.specs.declared.Grid.{Grid}
-use Rattle.grid_design.specs.GridWord.{IsGridWord}
+use Rattle.grid_design.specs.declared.asked.Grid.{Grid}
+use Rattle.grid_design.specs.Asked.{IsGridWord}
 use Rattle.proud_words.specs.declared.request.TheConstants.{USUAL_LEVELS, USUAL_SEATS}
 use Rattle.proud_words.specs.Command.{proud_command}
 

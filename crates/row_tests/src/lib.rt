@@ -5,6 +5,8 @@
 #![tactic(auto)]
 
 #[cfg(test)]
+mod grid;
+#[cfg(test)]
 mod legal;
 #[cfg(test)]
 mod segments;
