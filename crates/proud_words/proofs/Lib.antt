@@ -4,3 +4,4 @@ mod Taken
 mod Answering
 mod One
 mod Stems
+mod Reading

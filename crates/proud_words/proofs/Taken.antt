@@ -1,5 +1,5 @@
 -- What the command of the program takes.
-use Rattle.std.proofs.Common.{◌≡◌, ◌&&◌, Bool, true, refl, List, [], Option, Some, None, is_some, codes}
+use Rattle.std.proofs.Common.{◌≡◌, ◌&&◌, Bool, true, false, refl, List, [], Option, Some, None, is_some, codes}
 use Rattle.std.specs.Prelude.{ℕ, IfSome}
 use Rattle.std.specs.Option.{option_map_or}
 use Rattle.clap.proofs.ValueTestLemmas.{accepts-Accepts}

@@ -10,7 +10,7 @@ texts = map (λ (t : Bor (List ℕ)). t.now)
 
 pub returns-in_err-matches-clause-usage : goal.returns-in_err-matches-clause-usage
 returns-in_err-matches-clause-usage c =
-    refused (app_of c.in_ok-command.command) (texts c.args.words.now) _ c.from_residual-in_err-matches.result c.in_ok-command.ensures c.in_err-matches.ensures.passes c.from_residual-in_err-matches.ensures
+    refused (app_of c.in_ok-command.command) (texts c.args.words.now) c.in_err-matches.field-0.0 c.from_residual-in_err-matches.result c.in_ok-command.ensures c.in_err-matches.ensures.passes c.from_residual-in_err-matches.ensures.1
 
 pub request_of-requires : goal.request_of-requires
 request_of-requires c = record {
