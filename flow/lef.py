@@ -161,7 +161,8 @@ def read_site(tokens: Tokens, name: str) -> Tuple[str, Site]:
             kind = words[0] if words else ""
         elif word == "SIZE":
             size = tokens.size(f"SITE {name}", words)
-    tokens.next()
+    if tokens.next() != name:
+        raise tokens.fault(f"SITE {name} isn't ended by its name")
     if size is None:
         raise tokens.fault(f"SITE {name} has no SIZE")
     return kind, Site(name, *size)
