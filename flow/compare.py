@@ -161,7 +161,8 @@ def options() -> argparse.Namespace:
     parser.add_argument("--json", action="store_true", help="print JSON: lengths in Bookshelf units, all faults, a bin by its column and row")
     parser.add_argument("--bin", type=positive, default=5, metavar="ROWS", help="how many rows a bin is high (default 5)")
     parser.add_argument("--faults", type=positive, default=10, metavar="N", help="how many faults of a placement the text tells (default 10)")
-    return parser.parse_args()
+    # Options may stand between the other words.
+    return parser.parse_intermixed_args()
 
 
 def main() -> int:

@@ -187,7 +187,8 @@ def options() -> argparse.Namespace:
     parser.add_argument("out", metavar="OUT.svg", help="the picture")
     parser.add_argument("--longest", type=count, default=0, metavar="N", help="draw the N longest nets, too")
     parser.add_argument("--net", action="append", default=[], metavar="NAME", help="draw the net of this name, too; may be given again")
-    return parser.parse_args()
+    # Options may stand between the other words.
+    return parser.parse_intermixed_args()
 
 
 def main() -> int:
