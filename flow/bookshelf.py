@@ -44,6 +44,7 @@ def micro(word: str) -> int:
     return -value if sign == "-" else value
 
 
+@functools.lru_cache(maxsize=1 << 17)
 def decimal(millionths: int) -> str:
     """The canonical decimal of a number of millionths."""
     whole, rest = divmod(abs(millionths), MICRO)

@@ -21,7 +21,8 @@ from collections import Counter
 from dataclasses import dataclass
 from typing import Any, Dict, Iterator, List, Optional, Tuple
 
-from bookshelf import MICRO, Design, Illegal, Placement, Rectangle, faults, printable, read_design, read_placement, run, wire_length
+from bookshelf import (MICRO, Design, Illegal, Placement, Rectangle, faults, printable, read_design, read_placement, run,
+                       wire_length)
 
 Bin = Tuple[int, int]
 
@@ -52,7 +53,7 @@ class Bins:
     def __init__(self, design: Design, side: int):
         self.core, self.side = design.rows.core, side
         self.free: Dict[Bin, int] = {}
-        blocks = [design.rectangle(node, design.given) for node, fixed in enumerate(design.nodes.fixed) if fixed and design.is_block(node)]
+        blocks = [design.rectangle(node, design.given) for node in range(len(design.nodes.names)) if design.is_block(node)]
         rows = design.rows
         for row in rows.subrows:
             area = Rectangle(row.x, row.y, row.x + row.sites * rows.pitch, row.y + rows.height)
@@ -76,7 +77,8 @@ class Bins:
         for node in design.cells():
             if node not in placement.lost:
                 self.add(taken, design.rectangle(node, placement))
-        densities = ((area / self.free[bin] if self.free.get(bin) else float("inf"), bin) for bin, area in sorted(taken.items()) if area)
+        densities = [(area / self.free[place] if self.free.get(place) else float("inf"), place)
+                     for place, area in sorted(taken.items()) if area]
         return max(densities, key=lambda entry: entry[0], default=(None, None))
 
 
@@ -114,9 +116,8 @@ def table(placements: List[Measured]) -> Iterator[str]:
         lines.append([printable(it.path), units(it.wire, 6), ratio, legal, units(it.mean), units(it.farthest and it.farthest[0]),
                       "-" if it.density is None else f"{it.density:.3f}"])
     widths = [max(len(line[column]) for line in lines) for column in range(len(lines[0]))]
-    for line in lines:
-        first_cell, *others = [text.ljust(width) if column == 0 else text.rjust(width) for column, (text, width) in enumerate(zip(line, widths))]
-        yield "  ".join([first_cell, *others])
+    for name, *others in lines:
+        yield "  ".join([name.ljust(widths[0]), *(text.rjust(width) for text, width in zip(others, widths[1:]))])
 
 
 def faults_told(placements: List[Measured], most: int) -> Iterator[str]:
@@ -157,10 +158,13 @@ def positive(word: str) -> int:
 def options() -> argparse.Namespace:
     parser = argparse.ArgumentParser(description=__doc__, formatter_class=argparse.RawDescriptionHelpFormatter)
     parser.add_argument("aux", metavar="DESIGN.aux", help="the design")
-    parser.add_argument("placements", metavar="PLACED.pl", nargs="+", help="its placements; the others are compared with the first")
-    parser.add_argument("--json", action="store_true", help="print JSON: lengths in Bookshelf units, all faults, a bin by its column and row")
+    parser.add_argument("placements", metavar="PLACED.pl", nargs="+",
+                        help="its placements; the others are compared with the first")
+    parser.add_argument("--json", action="store_true",
+                        help="print JSON: lengths in Bookshelf units, all faults, a bin by its column and row")
     parser.add_argument("--bin", type=positive, default=5, metavar="ROWS", help="how many rows a bin is high (default 5)")
-    parser.add_argument("--faults", type=positive, default=10, metavar="N", help="how many faults of a placement the text tells (default 10)")
+    parser.add_argument("--faults", type=positive, default=10, metavar="N",
+                        help="how many faults of a placement the text tells (default 10)")
     # Options may stand between the other words.
     return parser.parse_intermixed_args()
 

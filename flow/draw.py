@@ -1,9 +1,10 @@
 #!/usr/bin/env python3
 """Draws a placed design as an SVG, which a browser shows without anything else.
 
-Shown are the rows, the fixed blocks, the pads, the cells, and a legend with the wire length; pads smaller than a mark are drawn
-as marks. --longest and --net draw nets, each in a colour of its own, as lines from each pin to the middle of its pins; their
-cells stand out. Without PLACED.pl the cells stand where the design's own `.pl` has them.
+Shown are the rows, the fixed blocks, the pads, the cells, and a legend with the wire length. A fixed node is a block where it
+shares area with the core, and else a pad; pads smaller than a mark are drawn as marks. --longest and --net draw nets, each in a
+colour of its own, as lines from each pin to the middle of its pins; their cells stand out. Without PLACED.pl the cells stand
+where the design's own `.pl` has them.
 
 Status 0: OUT.svg is written. Status 2: one line says what is wrong with an input.
 """
@@ -36,7 +37,8 @@ class View:
 
     def transform(self) -> str:
         left, upper = self.shown.left / MICRO, self.shown.upper / MICRO
-        return f"translate({MARGIN - left * self.scale:.4f} {MARGIN + upper * self.scale:.4f}) scale({self.scale:.6g} {-self.scale:.6g})"
+        moved = f"translate({MARGIN - left * self.scale:.4f} {MARGIN + upper * self.scale:.4f})"
+        return f"{moved} scale({self.scale:.6g} {-self.scale:.6g})"
 
 
 def around(rectangles: Iterable[Rectangle]) -> Rectangle:
@@ -76,11 +78,13 @@ def net_lines(design: Design, placement: Placement, net: int, colour: str) -> It
     pins = []
     for pin in nets.pins(net):
         node = nets.node[pin]
-        pins.append((placement.x[node] + nodes.width[node] // 2 + nets.x[pin], placement.y[node] + nodes.height[node] // 2 + nets.y[pin]))
+        pins.append((placement.x[node] + nodes.width[node] // 2 + nets.x[pin],
+                     placement.y[node] + nodes.height[node] // 2 + nets.y[pin]))
     if pins:
         middle = [sum(axis) // len(pins) for axis in zip(*pins)]
         lines = "".join(f"M{decimal(middle[0])} {decimal(middle[1])}L{decimal(x)} {decimal(y)}" for x, y in pins)
-        yield f'<path class="net" fill="none" stroke="{colour}" stroke-width="1.2" vector-effect="non-scaling-stroke" d="{lines}"/>'
+        yield (f'<path class="net" fill="none" stroke="{colour}" stroke-width="1.2" vector-effect="non-scaling-stroke" '
+               f'd="{lines}"/>')
 
 
 def drawing(design: Design, placement: Placement, view: View, chosen: List[int]) -> Iterator[str]:
@@ -142,7 +146,8 @@ def legend(design: Design, placement: Placement, view: View, lengths: List[int],
     for number, (colour, text) in enumerate(legend_lines(design, placement, lengths, chosen)):
         y = MARGIN + 64 + 20 * number
         if colour:
-            yield f'<rect x="{left:.1f}" y="{y - 10}" width="12" height="12" fill="{colour}" stroke="#5a6675" stroke-width="0.5"/>'
+            yield (f'<rect x="{left:.1f}" y="{y - 10}" width="12" height="12" fill="{colour}" stroke="#5a6675" '
+                   f'stroke-width="0.5"/>')
         yield f'<text x="{left + (20 if colour else 0):.1f}" y="{y}">{shown(text)}</text>'
     yield "</g>"
 
@@ -154,7 +159,8 @@ def picture(design: Design, placement: Placement, chosen: List[int], lengths: Li
     width = 3 * MARGIN + view.width + LEGEND
     height = max(2 * MARGIN + view.height, MARGIN + 84 + 20 * sum(1 for line in lines if line.startswith("<text")))
     yield '<?xml version="1.0" encoding="UTF-8"?>'
-    yield f'<svg xmlns="http://www.w3.org/2000/svg" width="{width:.0f}" height="{height:.0f}" viewBox="0 0 {width:.0f} {height:.0f}">'
+    size = f'width="{width:.0f}" height="{height:.0f}" viewBox="0 0 {width:.0f} {height:.0f}"'
+    yield f'<svg xmlns="http://www.w3.org/2000/svg" {size}>'
     yield f"<title>{shown(design.name)}, placed: wire length {decimal(sum(lengths))}</title>"
     yield '<rect width="100%" height="100%" fill="#ffffff"/>'
     yield from drawing(design, placement, view, chosen)
@@ -186,7 +192,8 @@ def options() -> argparse.Namespace:
     parser.add_argument("placed", metavar="PLACED.pl", nargs="?", help="the placement (default: the design's own .pl)")
     parser.add_argument("out", metavar="OUT.svg", help="the picture")
     parser.add_argument("--longest", type=count, default=0, metavar="N", help="draw the N longest nets, too")
-    parser.add_argument("--net", action="append", default=[], metavar="NAME", help="draw the net of this name, too; may be given again")
+    parser.add_argument("--net", action="append", default=[], metavar="NAME",
+                        help="draw the net of this name, too; may be given again")
     # Options may stand between the other words.
     return parser.parse_intermixed_args()
 

@@ -99,7 +99,7 @@ class Tokens:
 
 
 def read_library(path: str, asked_site: Optional[str], used: Iterable[str]) -> Library:
-    """Reads the file. The site is the asked one, or that of the first used macro that names one, or the only one of CLASS CORE."""
+    """Reads the file. The site is the asked one, or that of the first used macro that names one, or the only one for cells."""
     tokens, sites, macros, layer = Tokens(path), {}, {}, None
     while tokens.at < len(tokens.words):
         word = tokens.next()

@@ -212,14 +212,15 @@ class Builder:
         if is_constant(bit):
             self.constants += 1
         else:
-            self.net(bit).add(cell, DIRECTIONS.get(direction, "B"), place[0] - macro.width // 2, place[1] - macro.height // 2, pin)
+            x, y = place[0] - macro.width // 2, place[1] - macro.height // 2
+            self.net(bit).add(cell, DIRECTIONS.get(direction, "B"), x, y, pin)
 
 
 # The core
 
 
 def make_rows(library: Library, macros: List[Macro], utilization: Fraction, aspect: Fraction) -> Rows:
-    """Rows for the cells: as many sites as they take by the utilization, as many times as high as wide as the aspect says."""
+    """Rows for the cells: as many sites as they take by the utilization, and a core of this height by its width."""
     pitch, height = library.site.width, library.site.height
     taken = [-(-macro.width // pitch) for macro in macros]
     sites = math.ceil(max(1, sum(taken)) / utilization)
@@ -328,7 +329,7 @@ def names_text(builder: Builder, nets: List[Net], others: List[Net]) -> str:
         "macros": {cell: macro.name for cell, macro in builder.macros.items()},
         "ports": {pad.node: [pad.name, pad.direction] for pad in builder.pads},
         "pins": [[pin for *_, pin in net.pins] for net in nets],
-        "others": {net.name: [[node, pin] for node, *_, pin in net.pins] for net in others},
+        "others": [[net.name, [[node, pin] for node, *_, pin in net.pins]] for net in others],
     }, separators=(",", ":"))
 
 
@@ -351,15 +352,20 @@ def utilization(word: str) -> Fraction:
 
 
 def options() -> argparse.Namespace:
-    parser = argparse.ArgumentParser(description=__doc__, epilog=PADS_HELP, formatter_class=argparse.RawDescriptionHelpFormatter)
+    parser = argparse.ArgumentParser(description=__doc__, epilog=PADS_HELP,
+                                     formatter_class=argparse.RawDescriptionHelpFormatter)
     parser.add_argument("cells", metavar="CELLS", help="the LEF file: SITE, and for each cell MACRO with SIZE and PINs")
     parser.add_argument("netlist", metavar="NETLIST.json", help="the netlist")
-    parser.add_argument("-o", dest="folder", metavar="DIR", required=True, help="the folder for the design; it is made where it isn't there")
-    parser.add_argument("--name", help="the design's name (default: the top module's, other signs than letters, digits and ._- as _)")
-    parser.add_argument("--top", metavar="MODULE", help="the module (default: the one that is marked as the top, or the only one)")
+    parser.add_argument("-o", dest="folder", metavar="DIR", required=True,
+                        help="the folder for the design; it is made where it isn't there")
+    parser.add_argument("--name",
+                        help="the design's name (default: the top module's, other signs than letters, digits and ._- as _)")
+    parser.add_argument("--top", metavar="MODULE",
+                        help="the module (default: the one that is marked as the top, or the only one)")
     parser.add_argument("--utilization", type=utilization, default=Fraction(7, 10), metavar="U",
                         help="which part of the sites the cells take, above 0 and at most 1 (default 0.7)")
-    parser.add_argument("--aspect", type=ratio, default=Fraction(1), metavar="A", help="the core's height by its width (default 1)")
+    parser.add_argument("--aspect", type=ratio, default=Fraction(1), metavar="A",
+                        help="the core's height by its width (default 1)")
     parser.add_argument("--pads", metavar="FILE", help="where the pads stand (see below)")
     parser.add_argument("--leave-out", action="append", default=[], metavar="NET",
                         help="leave out this net, as that of a clock or a reset; may be given again")

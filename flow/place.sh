@@ -91,7 +91,8 @@ find_proud() {
 }
 
 need_programs() {
-    command -v python3 >/dev/null 2>&1 || stop 70 "python3 isn't on the PATH: install Python 3.8 or later (on Debian: apt-get install python3)"
+    command -v python3 >/dev/null 2>&1 || stop 70 "python3 isn't on the PATH: install Python 3.8 or later" \
+        "(on Debian: apt-get install python3)"
     case $netlist in
         *.json) ;;
         *) command -v yosys >/dev/null 2>&1 || stop 70 "yosys isn't on the PATH: install it (on Debian: apt-get install yosys)," \
@@ -115,12 +116,14 @@ step() {
     say "$name: done in $((SECONDS - begin)) s"
 }
 
-# Verilog to a flat netlist of the library's cells. yosys reads the names of its files in words, so it is given names without blanks.
+# Verilog to a flat netlist of the library's cells. yosys takes the names of files in its commands for words, so there they are
+# without blanks.
 map() {
-    local log=$work/yosys.log
+    local log=$work/yosys.log commands
     cp -- "$liberty" "$work/cells.lib" || return
-    if ! (cd "$work" && yosys -q -l yosys.log -p "synth -flatten -top $top; dfflibmap -liberty cells.lib; abc -liberty cells.lib;
-        opt_clean -purge; setattr -unset src; setattr -mod -unset src; rename -enumerate -pattern g%; write_json $top.json" "$netlist") >/dev/null 2>&1; then
+    commands="synth -flatten -top $top; dfflibmap -liberty cells.lib; abc -liberty cells.lib; opt_clean -purge"
+    commands+="; setattr -unset src; setattr -mod -unset src; rename -enumerate -pattern g%; write_json $top.json"
+    if ! (cd "$work" && yosys -q -l yosys.log -p "$commands" "$netlist") >/dev/null 2>&1; then
         say "yosys: $(grep -m 1 ERROR "$log" 2>/dev/null || echo "it failed and said nothing")"
         return 2
     fi
@@ -129,7 +132,8 @@ map() {
 }
 
 make_design() {
-    python3 "$here/netlist.py" "$lef" "$netlist" -o "$work" --top "$top" --name "$top" ${netlist_options[@]+"${netlist_options[@]}"} >&2
+    python3 "$here/netlist.py" "$lef" "$netlist" -o "$work" --top "$top" --name "$top" \
+        ${netlist_options[@]+"${netlist_options[@]}"} >&2
 }
 
 place() {

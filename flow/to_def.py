@@ -5,9 +5,9 @@ Cells are PLACED and fixed blocks FIXED, each at its lower left corner and turne
 node outside the core or without area, is a PIN at its middle. The die is the smallest rectangle around the core and all nodes.
 
 Where DESIGN.names.json stands beside the design, as netlist.py writes it, macros, ports, pins and the site have the names of
-the library, and the nets that were left out of the design are there, too; pins at constants aren't. Otherwise names are made up: a macro by its size, as cell_4.8x20, a pin by its offset from the middle, as
-at_-1.6_2, and the site is that of --site. A coordinate that isn't a whole number of database units is refused, and the line
-says which --units would do.
+the library, and the nets that were left out of the design are there, too; pins at constants aren't. Otherwise names are made
+up: a macro by its size, as cell_4.8x20, a pin by its offset from the middle, as at_-1.6_2, and the site is that of --site. A
+coordinate that isn't a whole number of database units is refused, and the line says which --units would do.
 
 Status 0: OUT.def is written. Status 2: one line says what is wrong with an input.
 """
@@ -35,7 +35,7 @@ class Names:
     macros: Dict[str, str] = field(default_factory=dict)
     ports: Dict[str, Tuple[str, str]] = field(default_factory=dict)
     pins: List[List[str]] = field(default_factory=list)
-    others: Dict[str, List[List[str]]] = field(default_factory=dict)
+    others: List[Tuple[str, List[List[str]]]] = field(default_factory=list)
 
 
 def read_names(path: str, design: Design, site: str) -> Names:
@@ -47,7 +47,7 @@ def read_names(path: str, design: Design, site: str) -> Names:
         layer, width = its["layer"] or ("", "0")
         ports = {pad: (name, direction.upper()) for pad, (name, direction) in its["ports"].items()}
         names = Names(site or its["site"], (layer, micro(width)), its["macros"], ports, its["pins"], its["others"])
-        on_nets = [node for net in names.others.values() for node, _ in net]
+        on_nets = [node for _, pins in names.others for node, _ in pins]
         fits = [len(pins) for pins in names.pins] == [len(design.nets.pins(net)) for net in range(len(design.nets.names))]
     except (ValueError, RecursionError) as error:
         raise Fault(f"{path}: broken JSON: {error}") from None
@@ -117,19 +117,21 @@ class Writer:
         for node in those:
             name = self.name(nodes.names[node])
             place = self.place(f"node {name}", placement.x[node], placement.y[node])
-            yield f"- {name} {self.macro(node)} + {'FIXED' if nodes.fixed[node] else 'PLACED'} ( {place} ) {placement.turned[node]} ;"
+            status = "FIXED" if nodes.fixed[node] else "PLACED"
+            yield f"- {name} {self.macro(node)} + {status} ( {place} ) {placement.turned[node]} ;"
         yield "END COMPONENTS"
 
     def pins(self) -> Iterator[str]:
         nodes, placement, nets = self.design.nodes, self.placement, self.design.nets
         net_of = {nets.node[pin]: self.net_name(net) for net in range(len(nets.names)) for pin in nets.pins(net)}
-        net_of.update((nodes.number[node], self.name(net)) for net, pins in self.names.others.items() for node, _ in pins if self.is_pin[nodes.number[node]])
+        net_of.update((nodes.number[node], self.name(net)) for net, pins in self.names.others for node, _ in pins)
         those = [node for node, is_pin in enumerate(self.is_pin) if is_pin]
         shape = self.shape()
         yield f"PINS {len(those)} ;"
         for node in those:
             name, direction = self.port(node)
-            place = self.place(f"pad {name}", placement.x[node] + nodes.width[node] // 2, placement.y[node] + nodes.height[node] // 2)
+            middle = placement.x[node] + nodes.width[node] // 2, placement.y[node] + nodes.height[node] // 2
+            place = self.place(f"pad {name}", *middle)
             net = net_of.get(node) or self.name(name)
             yield (f"- {self.name(name)} + NET {net} + DIRECTION {direction} + USE SIGNAL{shape} + FIXED ( {place} ) "
                    f"{placement.turned[node]} ;")
@@ -157,7 +159,7 @@ class Writer:
         """The design's nets, those that were left out of it, and one for each port that is on none."""
         nodes = self.design.nodes
         nets = [(self.net_name(net), list(self.net_pins(net))) for net in range(len(self.design.nets.names))]
-        nets += [(net, [(nodes.number[node], pin) for node, pin in pins]) for net, pins in self.names.others.items()]
+        nets += [(net, [(nodes.number[node], pin) for node, pin in pins]) for net, pins in self.names.others]
         joined = {node for _, pins in nets for node, _ in pins}
         nets += [(self.port(node)[0], [(node, "")]) for node, is_pin in enumerate(self.is_pin) if is_pin and node not in joined]
         yield f"NETS {len(nets)} ;"

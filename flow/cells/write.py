@@ -69,8 +69,8 @@ def lef_cell(name, sites, inputs, output):
 
 
 def layer(name, direction):
-    return [f"LAYER {name}", "  TYPE ROUTING ;", f"  DIRECTION {direction} ;", "  PITCH 0.4 ;", "  WIDTH 0.2 ;", "  SPACING 0.2 ;",
-            f"END {name}", ""]
+    return [f"LAYER {name}", "  TYPE ROUTING ;", f"  DIRECTION {direction} ;", "  PITCH 0.4 ;", "  WIDTH 0.2 ;",
+            "  SPACING 0.2 ;", f"END {name}", ""]
 
 
 def liberty():
@@ -83,7 +83,8 @@ def liberty():
 
 def lef():
     yield "# The cells of the flow, as flow/cells/write.py writes them."
-    yield from ["VERSION 5.8 ;", 'BUSBITCHARS "[]" ;', 'DIVIDERCHAR "/" ;', "", "UNITS", "  DATABASE MICRONS 1000 ;", "END UNITS", ""]
+    yield from ["VERSION 5.8 ;", 'BUSBITCHARS "[]" ;', 'DIVIDERCHAR "/" ;', ""]
+    yield from ["UNITS", "  DATABASE MICRONS 1000 ;", "END UNITS", ""]
     yield from layer("metal1", "HORIZONTAL") + layer("metal2", "VERTICAL")
     yield from ["SITE core", "  CLASS CORE ;", f"  SIZE {number(SITE)} BY {number(HEIGHT)} ;", "END core", ""]
     for name, (sites, inputs, output, _) in CELLS.items():

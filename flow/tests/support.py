@@ -1,4 +1,4 @@
-"""What the tests share: a hand-made library and netlist, whose coordinates are worked out beside them, and how scripts are run."""
+"""What the tests share: a hand-made library and netlist, with their coordinates worked out beside, and how scripts are run."""
 import importlib
 import io
 import json
@@ -52,7 +52,7 @@ def cell(kind, **pins):
 
 
 def netlist():
-    """Nets `in` (2), `clk` (3), `mid` (4), `out[0]` (5) and `out[1]` (6); pin A of g3 is at a constant, and its Y leads nowhere."""
+    """Nets `in` (2), `clk` (3), `mid` (4), `out[0]` (5), `out[1]` (6); pin A of g3 is at a constant, and its Y leads nowhere."""
     return {"modules": {
         "cells_of_another": {"attributes": {}, "ports": {}, "cells": {}},
         "chip": {
@@ -101,9 +101,9 @@ class Case(unittest.TestCase):
             return file.read()
 
     def script(self, name, *words, status=0):
-        """Runs a script of the flow as its command would, but in this process, which is quicker; what it printed and complained of.
+        """Runs a script of the flow as its command would, but in this process, which is quicker.
 
-        It is to end with this status. An exception that it doesn't catch comes out here.
+        It is to end with this status. What it printed and complained of is answered; an exception that it doesn't catch comes out.
         """
         script = importlib.import_module(name[:-len(".py")])
         printed, complained, before = io.StringIO(), io.StringIO(), os.getcwd()

@@ -8,12 +8,14 @@ from bookshelf import WORD, Fault, decimal, micro, net_lengths, read_design, rea
 
 class Numbers(unittest.TestCase):
     def test_values_in_millionths_are_dropped_towards_zero(self):
-        for word, value in (("0", 0), ("+1.6", 1600000), ("-.5", -500000), ("2.", 2000000), ("1e3", 1000000000), ("25E-1", 2500000),
-                            ("0.0000019", 1), ("-0.0000019", -1), ("1000000", 10**12), ("0e99999999999999", 0), ("1e-999999999", 0)):
+        for word, value in (("0", 0), ("+1.6", 1600000), ("-.5", -500000), ("2.", 2000000), ("1e3", 1000000000),
+                            ("25E-1", 2500000), ("0.0000019", 1), ("-0.0000019", -1), ("1000000", 10**12),
+                            ("0e99999999999999", 0), ("1e-999999999", 0)):
             self.assertEqual(micro(word), value, word)
 
     def test_other_words_are_no_numbers(self):
-        for word in ("", ".", "e5", "1e", "1.2.3", "0x10", "1_000", "inf", "nan", "٣", "1000000.000001", "1e999999999", "0" * 31):
+        for word in ("", ".", "e5", "1e", "1.2.3", "0x10", "1_000", "inf", "nan", "٣", "1000000.000001", "1e999999999",
+                     "0" * 31):
             with self.assertRaises(ValueError, msg=word):
                 micro(word)
 
@@ -23,8 +25,9 @@ class Numbers(unittest.TestCase):
             self.assertEqual(micro(text), value)
 
     def test_colons_at_the_ends_of_a_run_are_words(self):
-        for line, words in (("a\tI : 1 2\r", ["a", "I", ":", "1", "2"]), ("NumNets:5", ["NumNets:5"]), ("NumNets: 5", ["NumNets", ":", "5"]),
-                            (":5", [":", "5"]), ("a:b", ["a:b"]), (":: a::", [":", ":", "a", ":", ":"]), ("x\u00a0y", ["x\u00a0y"])):
+        for line, words in (("a\tI : 1 2\r", ["a", "I", ":", "1", "2"]), ("NumNets:5", ["NumNets:5"]),
+                            ("NumNets: 5", ["NumNets", ":", "5"]), (":5", [":", "5"]), ("a:b", ["a:b"]),
+                            (":: a::", [":", ":", "a", ":", ":"]), ("x\u00a0y", ["x\u00a0y"])):
             self.assertEqual(WORD.findall(line), words, line)
 
 

@@ -39,9 +39,11 @@ class Def(Case):
         outside, inside = self.made(self.chip(), "turned.pl")
         self.assertEqual(outside, [line.split() for line in (
             "VERSION 5.8", 'DIVIDERCHAR "/"', 'BUSBITCHARS "[]"', "DESIGN chip", "UNITS DISTANCE MICRONS 1000",
-            "DIEAREA ( 0 0 ) ( 20000 20000 )", "ROW row_0 unit 0 0 N DO 10 BY 1 STEP 2000 0", "ROW row_1 unit 0 10000 N DO 10 BY 1 STEP 2000 0")])
+            "DIEAREA ( 0 0 ) ( 20000 20000 )",
+            "ROW row_0 unit 0 0 N DO 10 BY 1 STEP 2000 0", "ROW row_1 unit 0 10000 N DO 10 BY 1 STEP 2000 0")])
         self.assertEqual(inside["COMPONENTS"], [line.split() for line in (
-            "g1 GATE + PLACED ( 0 0 ) N", "f1 FLOP + PLACED ( 4000 0 ) N", "g2 GATE + PLACED ( 12000 0 ) N", "g3 GATE + PLACED ( 0 10000 ) FS")])
+            "g1 GATE + PLACED ( 0 0 ) N", "f1 FLOP + PLACED ( 4000 0 ) N", "g2 GATE + PLACED ( 12000 0 ) N",
+            "g3 GATE + PLACED ( 0 10000 ) FS")])
         shape = "+ LAYER metal1 ( -250 -250 ) ( 250 250 )"
         self.assertEqual(inside["PINS"], [line.split() for line in (
             f"in + NET in + DIRECTION INPUT + USE SIGNAL {shape} + FIXED ( 0 10000 ) N",
@@ -98,7 +100,8 @@ class Def(Case):
     def test_names_of_another_design_are_refused(self):
         aux = self.chip()
         names = self.read("chip", "chip.names.json")
-        for text, told in ((names.replace('"g1"', '"g7"'), "another design, which has a node g7"), (names.replace('"pins":[', '"pins":[["A"],'), "another design"),
+        for text, told in ((names.replace('"g1"', '"g7"'), "another design, which has a node g7"),
+                           (names.replace('"pins":[', '"pins":[["A"],'), "another design"),
                            ("{", "broken JSON"), ("[]", "not a file of names"), ("{}", "not a file of names")):
             self.write("chip/chip.names.json", text)
             self.assertIn(told, self.refused("to_def.py", aux, "placed.pl", "out.def"))

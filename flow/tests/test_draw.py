@@ -40,7 +40,8 @@ class Draw(Case):
 
     def test_the_legend_tells_what_is_shown(self):
         picture = self.picture(self.chip(), "placed.pl")
-        self.assertEqual(picture.texts, ["chip", "placed.pl", "wire length 65.5", "nets 5, pins 11", "cells 4", "pads 4", "rows 2"])
+        self.assertEqual(picture.texts, ["chip", "placed.pl", "wire length 65.5", "nets 5, pins 11", "cells 4", "pads 4",
+                                         "rows 2"])
 
     def test_y_goes_up_and_all_is_in_the_frame(self):
         picture = self.picture(self.chip(), "placed.pl")
@@ -49,8 +50,10 @@ class Draw(Case):
         self.assertLess(up, 0)
         for areas in picture.areas.values():
             for x, y, width, height in areas:
-                for place, most in ((left + x * across, "width"), (left + (x + width) * across, "width"), (top + y * up, "height"), (top + (y + height) * up, "height")):
-                    self.assertTrue(0 <= place <= float(picture.root.get(most)), (x, y, place))
+                for place in (left + x * across, left + (x + width) * across):
+                    self.assertTrue(0 <= place <= float(picture.root.get("width")), (x, y, place))
+                for place in (top + y * up, top + (y + height) * up):
+                    self.assertTrue(0 <= place <= float(picture.root.get("height")), (x, y, place))
 
     def test_nets_by_length_and_by_name(self):
         aux = self.chip()

@@ -1,4 +1,4 @@
-"""The flow as a whole: place.sh from the examples, what it says of what is missing, installing, and how the scripts are written."""
+"""The flow as a whole: place.sh from the examples, what it says is missing, installing, and how the scripts are written."""
 import ast
 import glob
 import os
@@ -30,7 +30,8 @@ class Place(Case):
     @needs_proud
     def test_the_examples_from_their_netlists(self):
         for top, left_out in LEFT_OUT.items():
-            printed, _ = self.place(self.example(top + ".json"), top, f"out of {top}/", *left_out)
+            # One cut is enough here.
+            printed, _ = self.place(self.example(top + ".json"), top, f"out of {top}/", "--levels", "1", *left_out)
             self.assertEqual(sorted(os.listdir(self.path("out of " + top))), sorted(f"{top}.{ending}" for ending in ENDINGS))
             self.assertEqual(printed.split("\n")[1].split()[-4:], ["legal", "0", "0", printed.split()[-1]])
             self.script("compare.py", f"out of {top}/{top}.aux", f"out of {top}/{top}.proud.pl")
@@ -44,10 +45,10 @@ class Place(Case):
         os.mkdir(self.path("out"))
         self.write("out/mine", "mine")
         self.write("out/uart.def", "old")
-        self.place(self.example("uart.json"), "uart", "out", "--levels", "1", "--seats", "1", "--longest", "3", *LEFT_OUT["uart"])
+        self.place(self.example("uart.json"), "uart", "out", "--levels", "0", "--seats", "1", "--longest", "3", *LEFT_OUT["uart"])
         self.assertEqual(self.read("out", "mine"), "mine")
         self.assertTrue(self.read("out", "uart.def").startswith("VERSION 5.8 ;"))
-        self.assertIn("levels 1 ", self.read("out", "uart.report"))
+        self.assertIn("levels 0 ", self.read("out", "uart.report"))
 
     @needs_proud
     def test_what_fails_leaves_all_as_it_was(self):
@@ -56,10 +57,13 @@ class Place(Case):
         self.write("out/uart.def", "old")
         uart = self.example("uart.json")
         for words, told in ((["bad.json", "uart", "out"], "broken JSON"), ([uart, "cpu", "out"], "no module cpu"),
-                            ([uart, "uart", "out", "--levels", "13"], "usage: proud"), ([uart, "uart", "out/uart.def"], "isn't a folder"),
-                            ([uart, "uart", "out", "--leave-out", "mist"], "no net mist"), (["none.json", "uart", "out"], "there is no file none.json"),
-                            ([uart, "u art", "out"], "the name of a module"), ([uart, "uart"], "usage: place.sh"), (["--mist"], "unknown option"),
-                            ([uart, "uart", "out", "--cells", "none.lef"], "there is no file none.lef"), (["--cells"], "needs a word")):
+                            ([uart, "uart", "out", "--levels", "13"], "usage: proud"),
+                            ([uart, "uart", "out/uart.def"], "isn't a folder"),
+                            ([uart, "uart", "out", "--leave-out", "mist"], "no net mist"),
+                            (["none.json", "uart", "out"], "there is no file none.json"),
+                            ([uart, "u art", "out"], "the name of a module"), ([uart, "uart"], "usage: place.sh"),
+                            ([uart, "uart", "out", "--cells", "none.lef"], "there is no file none.lef"),
+                            (["--cells"], "needs a word"), (["--mist"], "unknown option")):
             status = 1 if told == "usage: proud" else 2
             printed, complained = self.place(*words, status=status)
             self.assertEqual(printed, "")
@@ -103,7 +107,8 @@ class Install(Case):
         self.write("a prefix/bin/other", "")
         self.command("make", "-s", "-C", TOP, "install", f"PREFIX={prefix}")
         installed = sorted(os.listdir(os.path.join(prefix, "bin")))
-        self.assertEqual(installed, ["other", "proud", "proud-compare", "proud-draw", "proud-netlist", "proud-place", "proud-to-def"])
+        self.assertEqual(installed, ["other", "proud", "proud-compare", "proud-draw", "proud-netlist", "proud-place",
+                                     "proud-to-def"])
         for name in installed[1:]:
             self.assertTrue(os.stat(os.path.join(prefix, "bin", name)).st_mode & stat.S_IXOTH, name)
         self.assertTrue(os.path.isfile(os.path.join(prefix, "share", "man", "man1", "proud.1")))
@@ -134,7 +139,7 @@ class Written(Case):
     def test_each_script_tells_what_it_does(self):
         for name in SCRIPTS:
             printed, _ = self.command(sys.executable, os.path.join(FLOW, name), "--help")
-            self.assertGreater(len(printed.split("\n")), 20, name)
+            self.assertGreater(len(printed), 800, name)
             self.assertIn("Status 0:", printed)
         printed, _ = self.command(os.path.join(FLOW, "place.sh"), "--help")
         self.assertIn("--leave-out NET", printed)
@@ -151,7 +156,7 @@ class Written(Case):
             with open(path, encoding="utf-8") as file:
                 text = file.read()
             self.assertLessEqual(text.count("\n"), 800, path)
-            self.assertLessEqual(max(map(len, text.split("\n"))), 150, path)
+            self.assertLessEqual(max(map(len, text.split("\n"))), 130, path)
             for node in ast.walk(ast.parse(text, path, feature_version=(3, 8))):
                 if isinstance(node, ast.FunctionDef):
                     self.assertLess(node.end_lineno - node.lineno, 41, f"{path}: {node.name}")
@@ -173,8 +178,9 @@ class Written(Case):
         with open(os.path.join(copy, "docs", "placement.svg"), encoding="utf-8") as file:
             before = file.read()
         os.remove(os.path.join(copy, "docs", "placement.svg"))
-        self.command("bash", "-ec", f"cd copy\n" + "\n".join(commands), PROUD=os.path.abspath(proud()))
-        self.assertEqual(self.read("copy", "docs", "placement.svg"), before)
+        self.command("bash", "-ec", "cd copy\n" + "\n".join(commands), PROUD=os.path.abspath(proud()))
+        told = "docs/placement.svg is another picture than the lines in docs/FLOW.md make: run them anew"
+        self.assertEqual(self.read("copy", "docs", "placement.svg"), before, told)
 
 
 if __name__ == "__main__":

@@ -14,7 +14,8 @@ class Netlist(Case):
         # Ten sites of cells at a half: twenty, 2 by 10, as high as wide: two rows of ten sites, 20 by 20.
         self.chip()
         self.assertEqual(self.lines("nodes")[1:], ["NumNodes : 8", "NumTerminals : 4", "g1 4 10", "f1 7 10", "g2 4 10", "g3 4 10",
-                                                   "in 0 0 terminal", "clk 0 0 terminal", "out[0] 0 0 terminal", "out[1] 0 0 terminal"])
+                                                   "in 0 0 terminal", "clk 0 0 terminal", "out[0] 0 0 terminal",
+                                                   "out[1] 0 0 terminal"])
         self.assertEqual(self.lines("nets")[1:], [
             "NumNets : 5", "NumPins : 11",
             "NetDegree : 2 in", "in O : 0 0", "g1 I : -1.5 -3",
@@ -25,8 +26,8 @@ class Netlist(Case):
         self.assertEqual(self.lines("pl")[5:], ["in 0 10 : N /FIXED", "clk 10 20 : N /FIXED", "out[0] 20 10 : N /FIXED",
                                                 "out[1] 10 0 : N /FIXED"])
         self.assertEqual([line for line in self.lines("scl") if line[:5] in ("NumRo", "Coord", "Heigh", "Sites", "Subro")][:7], [
-            "NumRows : 2", "Coordinate : 0", "Height : 10", "Sitespacing : 2", "Sitesymmetry : 1", "SubrowOrigin : 0 NumSites : 10",
-            "Coordinate : 10"])
+            "NumRows : 2", "Coordinate : 0", "Height : 10", "Sitespacing : 2", "Sitesymmetry : 1",
+            "SubrowOrigin : 0 NumSites : 10", "Coordinate : 10"])
         self.assertEqual(self.told, "cells 4 pads 4 nets 5 pins 11\nrows 2 of 10 sites of 2 by 10\n"
                                     "left out: 0 nets by name with 0 pins, 1 nets of fewer than two pins, 1 pins at constants\n")
 
@@ -72,7 +73,8 @@ class Netlist(Case):
 
     def test_files_of_pads_that_are_wrong(self):
         self.chip()
-        for text, told in (("left in clk out[0]\n", "pads: port out[1] has no place"), ("left in\ntop in\n", "pads:2: in has two places"),
+        for text, told in (("left in clk out[0]\n", "pads: port out[1] has no place"),
+                           ("left in\ntop in\n", "pads:2: in has two places"),
                            ("left it\n", "pads:1: it is no port"), ("middle in\n", "pads:1: neither a side"),
                            ("at 1 out\n", "pads:1: neither a side"), ("at 1 2 out\n", "pads:1: neither a side"),
                            ("at 1 y in\n", "pads:1: bad number y")):
@@ -103,7 +105,8 @@ class Netlist(Case):
             modules["modules"]["chip"]["cells"]["g1"] = change
             self.write("chip.json", json.dumps(modules))
             self.assertIn(told, self.refused("netlist.py", "cells.lef", "chip.json", "-o", "new"))
-        for text, told in (("{", "broken JSON"), ("[" * 100000, "broken JSON"), ("[]", "no modules"), ('{"modules": 5}', "no modules")):
+        for text, told in (("{", "broken JSON"), ("[" * 100000, "broken JSON"), ("[]", "no modules"),
+                           ('{"modules": 5}', "no modules")):
             self.write("chip.json", text)
             self.assertIn(told, self.refused("netlist.py", "cells.lef", "chip.json", "-o", "new"))
         modules = netlist()
@@ -113,10 +116,14 @@ class Netlist(Case):
 
     def test_libraries_that_are_wrong(self):
         self.chip()
-        for old, new, told in (("SIZE 4 BY 10 ; SITE", "SITE", "MACRO GATE has no SIZE"), ("SIZE 4 BY 10 ; SITE", "SIZE 4 10 ; SITE", "SIZE isn't W BY H"),
-                               ("SIZE 2 BY 10 ; END unit", "END unit", "SITE unit has no SIZE"), ("RECT 0 1 1 3", "RECT 0 1 1", "RECT has 3 numbers"),
-                               ("RECT 0 1 1 3", "RECT 0 1 1 x", "MACRO GATE: PIN A: bad number x"), ("END GATE", "END", "MACRO GATE isn't ended"),
-                               ("END unit", "END other", "SITE unit isn't ended"), ("END LIBRARY", "MACRO Z", "it ends in the middle")):
+        for old, new, told in (("SIZE 4 BY 10 ; SITE", "SITE", "MACRO GATE has no SIZE"),
+                               ("SIZE 4 BY 10 ; SITE", "SIZE 4 10 ; SITE", "SIZE isn't W BY H"),
+                               ("SIZE 2 BY 10 ; END unit", "END unit", "SITE unit has no SIZE"),
+                               ("RECT 0 1 1 3", "RECT 0 1 1", "RECT has 3 numbers"),
+                               ("RECT 0 1 1 3", "RECT 0 1 1 x", "MACRO GATE: PIN A: bad number x"),
+                               ("END GATE", "END", "MACRO GATE isn't ended"),
+                               ("END unit", "END other", "SITE unit isn't ended"),
+                               ("END LIBRARY", "MACRO Z", "it ends in the middle")):
             self.assertIn(old, LEF)
             self.write("cells.lef", LEF.replace(old, new, 1))
             self.assertIn(told, self.refused("netlist.py", "cells.lef", "chip.json", "-o", "chip"))
