@@ -19,6 +19,7 @@ WORD = re.compile(r"[^ \t\r:](?:[^ \t\r]*[^ \t\r:])?|:")
 NUMBER = re.compile(r"([+-]?)(?=\.?[0-9])([0-9]*)\.?([0-9]*)(?:[eE]([+-]?[0-9]+))?")
 WHOLE = re.compile(r"[0-9]{1,30}")
 KINDS = "nodes", "nets", "wts", "pl", "scl"
+DIRECTIONS = "I", "O", "B", "i", "o", "b"
 TURNS = "N", "S", "E", "W", "FN", "FS", "FE", "FW"
 
 
@@ -139,7 +140,6 @@ class Nets:
     node: List[int]
     x: List[int]
     y: List[int]
-    direction: List[str]
 
     def pins(self, net: int) -> range:
         return range(self.begins[net], self.begins[net + 1])
@@ -240,6 +240,7 @@ class Counts:
 
 
 def numbers(path: str, number: int, *words: str) -> List[int]:
+    """The values of number words of a line."""
     try:
         return [micro(word) for word in words]
     except ValueError as error:
@@ -288,7 +289,7 @@ def read_nodes(path: str) -> Nodes:
 
 
 def read_nets(path: str, number_of: Dict[str, int]) -> Nets:
-    nets, counts, degree, number = Nets([], [], [], [], [], []), Counts(path, "numnets", "numpins"), 0, 0
+    nets, counts, degree, number = Nets([], [], [], [], []), Counts(path, "numnets", "numpins"), 0, 0
     for number, words in content(path, "nets"):
         if words[1:2] == [":"] and (words[0].lower() == "netdegree" or counts.take(number, words)):
             if words[0].lower() == "netdegree":
@@ -299,21 +300,32 @@ def read_nets(path: str, number_of: Dict[str, int]) -> Nets:
                 nets.names.append(words[3] if len(words) == 4 else "")
                 nets.begins.append(len(nets.node))
             continue
-        direction = words[1].upper() if len(words) > 1 else "B"
-        if not nets.names or len(words) not in (1, 2, 5) or direction not in ("I", "O", "B") or words[2:3] not in ([], [":"]):
+        if not nets.names:
             raise Fault(f"{path}:{number}: bad line")
-        x, y = numbers(path, number, words[3], words[4]) if len(words) == 5 else (0, 0)
+        x, y = offset_of(path, number, words)
         node = number_of.get(words[0])
         if node is None:
             raise Fault(f"{path}:{number}: unknown name {words[0]}")
         nets.node.append(node)
         nets.x.append(x)
         nets.y.append(y)
-        nets.direction.append(direction)
     check_degree(path, number, nets, degree)
     nets.begins.append(len(nets.node))
     counts.compare(numnets=len(nets.names), numpins=len(nets.node))
     return nets
+
+
+def offset_of(path: str, number: int, words: List[str]) -> Tuple[int, int]:
+    """The offset in a pin's line. Its direction, if there is one, isn't kept."""
+    size = len(words)
+    if size > 1 and words[1] not in DIRECTIONS or size > 2 and (size != 5 or words[2] != ":"):
+        raise Fault(f"{path}:{number}: bad line")
+    if size < 5:
+        return 0, 0
+    try:
+        return micro(words[3]), micro(words[4])
+    except ValueError as error:
+        raise Fault(f"{path}:{number}: bad number {error}") from None
 
 
 def check_degree(path: str, number: int, nets: Nets, degree: int) -> None:

@@ -103,7 +103,7 @@ class Case(unittest.TestCase):
     def script(self, name, *words, status=0):
         """Runs a script of the flow as its command would, but in this process, which is quicker.
 
-        It is to end with this status. What it printed and complained of is answered; an exception that it doesn't catch comes out.
+        It is to end with this status. What it printed and complained of is answered. An exception comes out.
         """
         script = importlib.import_module(name[:-len(".py")])
         printed, complained, before = io.StringIO(), io.StringIO(), os.getcwd()
