@@ -172,6 +172,8 @@ class Builder:
         return {bit for bit in found if not is_constant(bit)}
 
     def net(self, bit: int) -> Net:
+        if not isinstance(bit, int):
+            raise TypeError(f"a bit is {bit}")
         if bit not in self.nets:
             self.nets[bit] = Net(self.names.get(bit, [f"net_{bit}"])[0])
         return self.nets[bit]
@@ -376,14 +378,14 @@ def options() -> argparse.Namespace:
 def main() -> int:
     asked = options()
     modules = read_netlist(asked.netlist)
-    top = choose_top(asked.netlist, modules, asked.top)
     try:
+        top = choose_top(asked.netlist, modules, asked.top)
         used = [cell["type"] for cell in modules[top].get("cells", {}).values()]
         builder = Builder(read_library(asked.cells, asked.site, used), modules, top, asked.leave_out)
         builder.add_pads()
         builder.add_cells()
     except (KeyError, TypeError, AttributeError) as error:
-        raise Fault(f"{asked.netlist}: module {top} isn't as yosys writes it ({type(error).__name__}: {error})") from None
+        raise Fault(f"{asked.netlist}: it isn't as yosys writes it ({type(error).__name__}: {error})") from None
     rows = make_rows(builder.library, list(builder.macros.values()), asked.utilization, asked.aspect)
     if asked.pads:
         place_by_file(asked.pads, builder.pads, rows)

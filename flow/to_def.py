@@ -17,7 +17,7 @@ import argparse
 import json
 import os
 from dataclasses import dataclass, field
-from typing import Dict, Iterator, List, Tuple
+from typing import Any, Dict, Iterator, List, Tuple
 
 from bookshelf import (MICRO, Design, Fault, Placement, decimal, micro, read_design, read_placement, read_text, run, without_loss,
                        write_whole)
@@ -35,7 +35,7 @@ class Names:
     macros: Dict[str, str] = field(default_factory=dict)
     ports: Dict[str, Tuple[str, str]] = field(default_factory=dict)
     pins: List[List[str]] = field(default_factory=list)
-    others: List[Tuple[str, List[List[str]]]] = field(default_factory=list)
+    others: List[Tuple[str, List[Tuple[str, str]]]] = field(default_factory=list)
 
 
 def read_names(path: str, design: Design, site: str) -> Names:
@@ -43,20 +43,35 @@ def read_names(path: str, design: Design, site: str) -> Names:
     if not os.path.exists(path):
         return Names(site or "site")
     try:
-        its = json.loads(read_text(path))
-        layer, width = its["layer"] or ("", "0")
-        ports = {pad: (name, direction.upper()) for pad, (name, direction) in its["ports"].items()}
-        names = Names(site or its["site"], (layer, micro(width)), its["macros"], ports, its["pins"], its["others"])
+        names = names_of(json.loads(read_text(path)), site)
         on_nets = [node for _, pins in names.others for node, _ in pins]
         fits = [len(pins) for pins in names.pins] == [len(design.nets.pins(net)) for net in range(len(design.nets.names))]
-    except (ValueError, RecursionError) as error:
+    except (json.JSONDecodeError, RecursionError) as error:
         raise Fault(f"{path}: broken JSON: {error}") from None
-    except (KeyError, TypeError, AttributeError):
+    except (KeyError, TypeError, AttributeError, ValueError):
         raise Fault(f"{path}: not a file of names as netlist.py writes it") from None
     unknown = [name for name in (*names.macros, *names.ports, *on_nets) if name not in design.nodes.number]
     if unknown or not fits:
         raise Fault(f"{path}: it belongs to another design" + (f", which has a node {unknown[0]}" if unknown else ""))
     return names
+
+
+def names_of(its: Dict[str, Any], site: str) -> Names:
+    """The names in a file's JSON; an error of Python where it has another form."""
+    layer, width = its["layer"] or ("", "0")
+    return Names(
+        site or word(its["site"]),
+        (word(layer), micro(width)),
+        {node: word(macro) for node, macro in its["macros"].items()},
+        {pad: (word(name), word(direction).upper()) for pad, (name, direction) in its["ports"].items()},
+        [[word(pin) for pin in pins] for pins in its["pins"]],
+        [(word(net), [(word(node), word(pin)) for node, pin in pins]) for net, pins in its["others"]])
+
+
+def word(value: Any) -> str:
+    if not isinstance(value, str):
+        raise TypeError
+    return value
 
 
 class Writer:

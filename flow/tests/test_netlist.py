@@ -99,8 +99,9 @@ class Netlist(Case):
                 (cell("GATE", B=2), "cell g1: MACRO GATE has no PIN B"),
                 (cell("BARE", A=2), "cell g1: PIN A of MACRO BARE has no place"),
                 (cell("TALL", A=2), "cell g1: MACRO TALL is higher than a row"),
-                ({"type": "GATE"}, "module chip isn't as yosys writes it (KeyError: 'connections')"),
-                (5, "module chip isn't as yosys writes it")):
+                ({"type": "GATE"}, "chip.json: it isn't as yosys writes it (KeyError: 'connections')"),
+                (cell("GATE", A=None), "it isn't as yosys writes it (TypeError: a bit is None)"),
+                (5, "it isn't as yosys writes it")):
             modules = netlist()
             modules["modules"]["chip"]["cells"]["g1"] = change
             self.write("chip.json", json.dumps(modules))
