@@ -2,7 +2,7 @@
 import os
 import unittest
 
-from support import PLACED, TOP, Case
+from support import PLACED, TOP, Case, netlist
 
 
 def sections(text):
@@ -59,6 +59,15 @@ class Def(Case):
         _, inside = self.made(self.chip(None, "--leave-out", "clk"), "placed.pl")
         self.assertIn("clk ( PIN clk ) ( f1 CLK ) + USE SIGNAL".split(), inside["NETS"])
         self.assertEqual(len(inside["NETS"]), 6)
+
+    def test_two_ports_may_be_on_one_net(self):
+        modules = netlist()
+        modules["modules"]["chip"]["ports"]["clk_out"] = {"direction": "output", "bits": [3]}
+        for left_out in ([], ["--leave-out", "clk"]):
+            aux = self.chip(modules, "--pads", self.write("pads", "left in\nright out\ntop clk\nat 0 0 clk_out\n"), *left_out)
+            _, inside = self.made(aux, self.path("chip", "chip.pl"))
+            self.assertEqual([words[:4] for words in inside["PINS"] if words[0] == "clk_out"], [["clk_out", "+", "NET", "clk"]])
+            self.assertIn("clk ( PIN clk ) ( PIN clk_out ) ( f1 CLK ) + USE SIGNAL".split(), inside["NETS"])
 
     def test_without_names_they_are_made_up(self):
         aux = self.chip()

@@ -63,6 +63,13 @@ class Netlist(Case):
         return {name: (decimal(design.given.x[node]), decimal(design.given.y[node]))
                 for node, name in enumerate(design.nodes.names) if design.nodes.fixed[node]}
 
+    def test_pads_go_clockwise_from_the_lower_left_corner(self):
+        # Eight pads around 80 units: the first 5 from the corner, the others 10 apart.
+        modules = netlist()
+        modules["modules"]["chip"]["ports"]["more"] = {"direction": "input", "bits": [20, 21, 22, 23]}
+        self.assertEqual(list(self.places(self.chip(modules)).values()), [
+            ("0", "5"), ("0", "15"), ("5", "20"), ("15", "20"), ("20", "15"), ("20", "5"), ("15", "0"), ("5", "0")])
+
     def test_pads_stand_where_their_file_says(self):
         self.write("pads", "# sides\nleft clk\ntop out # both\nat 7.25 -3 in\n")
         self.assertEqual(self.places(self.chip(None, "--pads", "pads")),
@@ -114,6 +121,14 @@ class Netlist(Case):
         modules["modules"]["chip"]["cells"]["a name"] = cell("GATE", A=2, Y=9)
         self.write("chip.json", json.dumps(modules))
         self.assertIn("the name 'a name' can't stand", self.refused("netlist.py", "cells.lef", "chip.json", "-o", "new"))
+
+    def test_without_a_site_in_the_macros_it_is_the_one_for_cells(self):
+        self.chip()
+        self.write("cells.lef", LEF.replace("BY 10 ; SITE unit ;", "BY 10 ;"))
+        self.script("netlist.py", "cells.lef", "chip.json", "-o", "chip")
+        self.assertEqual(read_design(self.path("chip", "chip.aux")).rows.pitch, 2000000)
+        self.write("cells.lef", self.read("cells.lef").replace("CLASS PAD", "CLASS CORE"))
+        self.assertIn("it has 2 SITEs for cells", self.refused("netlist.py", "cells.lef", "chip.json", "-o", "chip"))
 
     def test_libraries_that_are_wrong(self):
         self.chip()
