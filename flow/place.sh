@@ -5,7 +5,7 @@ set -u
 script=$(basename "$0")
 here=$(cd "$(dirname "$(readlink -f "$0")")" && pwd) || exit 70
 lef=$here/cells/cells.lef liberty=$here/cells/cells.lib
-netlist_options=() proud_options=() draw_options=() words=()
+netlist_options=() levels_option=() seats_option=() draw_options=() words=()
 work=
 
 say() { printf '%s: %s\n' "$script" "$*" >&2; }
@@ -71,7 +71,9 @@ take_option() {
     case $1 in
         --cells) lef=$2 ;;
         --liberty) liberty=$2 ;;
-        --levels | --seats) proud_options+=("$1" "$2") ;;
+        # proud has them in this order alone, and each once.
+        --levels) levels_option=("$1" "$2") ;;
+        --seats) seats_option=("$1" "$2") ;;
         --longest) draw_options+=("$1" "$2") ;;
         *) netlist_options+=("$1" "$2") ;;
     esac
@@ -137,7 +139,8 @@ make_design() {
 }
 
 place() {
-    "$proud" ${proud_options[@]+"${proud_options[@]}"} "$work/$top.aux" >"$work/$top.report"
+    local options=(${levels_option[@]+"${levels_option[@]}"} ${seats_option[@]+"${seats_option[@]}"})
+    "$proud" ${options[@]+"${options[@]}"} "$work/$top.aux" >"$work/$top.report"
     local status=$?
     cat "$work/$top.report" >&2
     return $status

@@ -45,7 +45,7 @@ class Place(Case):
         os.mkdir(self.path("out"))
         self.write("out/mine", "mine")
         self.write("out/uart.def", "old")
-        self.place(self.example("uart.json"), "uart", "out", "--levels", "0", "--seats", "1", "--longest", "3", *LEFT_OUT["uart"])
+        self.place(self.example("uart.json"), "uart", "out", "--seats", "1", "--levels", "0", "--longest", "3", *LEFT_OUT["uart"])
         self.assertEqual(self.read("out", "mine"), "mine")
         self.assertTrue(self.read("out", "uart.def").startswith("VERSION 5.8 ;"))
         self.assertIn("levels 0 ", self.read("out", "uart.report"))
