@@ -1,0 +1,5 @@
+pub mod Asked
+pub mod Parts
+pub mod Weights
+pub mod Texts
+pub mod Forms
