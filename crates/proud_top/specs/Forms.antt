@@ -1,7 +1,6 @@
 pub mod Asked
 pub mod Over
 pub mod Cells
-pub mod Corners
 pub mod Inputs
 pub mod Saying
 pub mod Stops

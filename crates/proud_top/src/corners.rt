@@ -1,6 +1,6 @@
 //! Where the nodes of a design stand.
 
-ghost use Rattle.std.specs.Prelude.{◌≡◌, ◌<◌, ◌^◌, length, IfOk};
+ghost use Rattle.std.specs.Prelude.{◌≡◌, ◌<◌, ◌^◌, length, All, IfOk};
 ghost use Rattle.std.specs.List.{count_by};
 ghost use Rattle.book_design.specs.Values.{node_value, node_values};
 ghost use Rattle.book_design.specs.Points.{is_movable, node_value_at};
@@ -8,9 +8,9 @@ ghost use Rattle.book_design.specs.WellFormed.{IsDesign};
 ghost use Rattle.row_space.specs.Ends.{AreGoodSegments};
 ghost use Rattle.row_legal.specs.Legal.{IsLegal};
 ghost use Rattle.row_legal.specs.Spots.{spot_of, spots_of};
+ghost use Rattle.wire_report.specs.Wire.{IsNearCorner};
 ghost use Rattle.proud_top.specs.Placement.{corner_from, corner_of, corners_of};
 ghost use Rattle.proud_top.specs.Forms.Cells.{ArePlacedIn, AreWithin, IsWithin};
-ghost use Rattle.proud_top.specs.Forms.Corners.{AreNear, IsNear};
 
 use book_design::{Design, Node};
 use book_text::Memory;
@@ -29,7 +29,7 @@ pub(crate) fn corners(
     requires segments { AreGoodSegments segments.now.pitch segments.now.segments }
     requires placed { ArePlacedIn design.now segments.now sites.now }
     ensures corners { IfOk result (λ corners. corners.items ≡ corners_of design.now (spots_of segments.now sites.now)) }
-    ensures near { IfOk result (λ corners. AreNear corners.items) }
+    ensures near { IfOk result (λ corners. All IsNearCorner corners.items) }
     ensures legal { IsLegal design.now (spots_of segments.now sites.now) }
 {
     places_apart();
@@ -52,7 +52,7 @@ fn node_corners(
     requires segments { AreGoodSegments segments.now.pitch segments.now.segments }
     requires places { AreWithin (count_by is_movable design.now.nodes) segments.now places.now }
     ensures corners { IfOk result (λ corners. corners.items ≡ corners_of design.now (spots_of segments.now places.now)) }
-    ensures near { IfOk result (λ corners. AreNear corners.items) }
+    ensures near { IfOk result (λ corners. All IsNearCorner corners.items) }
 {
     let mut corners = Vec::new(alloc);
     for i in 0..nodes.len() {
@@ -75,7 +75,7 @@ fn corner_of(
     requires segments { AreGoodSegments segments.now.pitch segments.now.segments }
     requires places { AreWithin (count_by is_movable design.now.nodes) segments.now places.now }
     ensures corner { result ≡ corner_of design.now.nodes (spots_of segments.now places.now) number }
-    ensures near { IsNear result }
+    ensures near { IsNearCorner result }
 {
     match design.point_of(number) {
         Some(point) => spot_of(segments, places[point as usize]),
@@ -91,7 +91,7 @@ fn spot_of(segments: &Segments, place: Place) -> Corner
     requires segments { AreGoodSegments segments.now.pitch segments.now.segments }
     requires place { IsWithin segments.now place }
     ensures spot { result ≡ corner_from (spot_of segments.now place) }
-    ensures near { IsNear result }
+    ensures near { IsNearCorner result }
 {
     let segment = segments.as_slice()[place.segment];
     Corner {
