@@ -236,7 +236,7 @@ both_texts a b e f =
     subst Q f (subst P e refl)
 
 pub one_reports : OneAnswer → (design : DesignValue) (count : ℕ) (levels : List Level) (file : List ℕ) (wire : ℕ) (a b : Result PlacedValue Refusal) → reports design count levels file wire a → reports design count levels file wire b → a ≡ b
-one_reports one design count levels file wire (Ok s) (Ok t) (e, g, is, s_is) (f, k, other, t_is) = ap Ok (both_texts s t (e ∙ sym f) (one_report one design count levels wire s.report t.report g k is s_is other t_is))
+one_reports one design count levels file wire (Ok s) (Ok t) (g, is, e, s_is) (k, other, f, t_is) = ap Ok (both_texts s t (e ∙ sym f) (one_report one design count levels wire s.report t.report g k is s_is other t_is))
 one_reports one design count levels file wire (Ok s) (Err q) h k = absurd k
 one_reports one design count levels file wire (Err r) b h k = absurd h
 
@@ -277,11 +277,11 @@ one_end one files request =
     one_then (measures design corners) (reports design count levels file) (one_measures design corners) (one_reports one design count levels file)))))))))))
 
 -- nothing is refused behind the places
-pub never_behind : (count : ℕ) (design : DesignValue) (levels : List Level) (rows : SegmentsValue) (places : List Place) (refusal : Refusal) → places_corners count design levels rows places (Err refusal) → ⊥
-never_behind count design levels rows places refusal (inl none) = none
-never_behind count design levels rows places refusal (inr (corners, stand, inl none)) = none
-never_behind count design levels rows places refusal (inr (corners, stand, inr (file, is, inl none))) = none
-never_behind count design levels rows places refusal (inr (corners, stand, inr (file, is, inr (wire, long, none)))) = none
+pub never_behind : (count : ℕ) (design : DesignValue) (levels : List Level) (rows : SegmentsValue) (sites : List Place) (refusal : Refusal) → places_corners count design levels rows sites (Err refusal) → ⊥
+never_behind count design levels rows sites refusal (inl none) = none
+never_behind count design levels rows sites refusal (inr (corners, stand, inl none)) = none
+never_behind count design levels rows sites refusal (inr (corners, stand, inr (file, is, inl none))) = none
+never_behind count design levels rows sites refusal (inr (corners, stand, inr (file, is, inr (wire, measured, none)))) = none
 
 -- where the greedy rule finds room for each cell, nothing behind the levels is refused
 never_stuck : OneAnswer → (count : ℕ) (design : DesignValue) (levels : List Level) (refusal : Refusal)

@@ -5,7 +5,7 @@ use Rattle.std.specs.Prelude.{Option, Some, None, not, All, if◌then◌else◌}
 use Rattle.std.specs.List.{count_by, range_with_len, AllByRecursion}
 use Rattle.std.proofs.Math.Nat.{mul-le-mul_right}
 use Rattle.std.proofs.lemmas.Int.{ints, to_z-of_z}
-use Rattle.std.proofs.lemmas.List.{get_or-map, get_or_read, length-map, map-append}
+use Rattle.std.proofs.lemmas.List.{get_or-map, length-map, map-append}
 use Rattle.std.proofs.lemmas.List.FromFn.{map-range_with_len_more, length-map-range_with_len, get_or-map-range_with_len}
 use Rattle.std.proofs.lemmas.List.Elements.{All-from_get_or, All-push, recursion_from_All}
 use Rattle.book_files.specs.declared.records.PlaceLine.{PlaceLine}
@@ -27,11 +27,11 @@ use Rattle.row_legal.specs.Legal.{Spot, spot_at, IsLegal}
 use Rattle.row_legal.specs.Spots.{spot_of, spots_of, AreSitesOf}
 use Rattle.row_space.specs.Runs.{segments_of}
 use Rattle.wire_report.specs.declared.corner.Corner.{Corner}
-use Rattle.wire_report.specs.Wire.{IsNearCorner}
+use Rattle.wire_report.specs.Wire.{IsNearCorner, corner_at}
 use Rattle.proud_top.specs.Placement.{corner_from, corner_of, corners_of, place_with, place_of, places_of}
 use Rattle.proud_top.specs.Forms.Cells.{ArePlacedIn, AreWithin, IsWithin}
 use Rattle.proud_top.proofs.Nodes.{no_node, point_there}
-use Rattle.proud_top.proofs.Wishing.{good_node}
+use Rattle.proud_top.proofs.Wishing.{good_node, no_record}
 
 -- ---- places
 
@@ -130,6 +130,15 @@ spot_near rows list place same good within =
     let P : List Segment → Type 0 = λ segments. IsNearSpot (segment_at segments place.segment).x rows.pitch place.site in
     subst P (sym same) (near_spot rows.pitch (segment_at rows.segments place.segment) place.site (good place.segment within.there) within.within)
 
+-- and the y of its row
+pub row_value : (rows : SegmentsValue) (list : List Segment) (place : Place) → list ≡ rows.segments → AreGoodSegments rows.pitch rows.segments → IsWithin rows place
+    → to_z w64 (of_z w64 (segment_at list place.segment).y) ≡ (segment_at rows.segments place.segment).y
+row_value rows list place same good within =
+    let segment = good place.segment within.there in
+    let y_fits : SFits w64 (segment_at rows.segments place.segment).y = fits (segment_at rows.segments place.segment).y segment.low segment.high in
+    let P : List Segment → Type 0 = λ segments. to_z w64 (of_z w64 (segment_at segments place.segment).y) ≡ (segment_at rows.segments place.segment).y in
+    subst P (sym same) (simp to_z-of_z refl)
+
 -- ---- corners and lines
 
 -- the point of a place that is read
@@ -179,6 +188,9 @@ spot_same nodes rows places i point d within at =
     let there : point < length places = let all = within.all in let below = at.there in omega arith in
     ap corner_from (sym (point_spot rows places point d there) ∙ ap (λ (q : ℕ). spot_at (spots_of rows places) q) (sym at.number)) ∙ sym (corner_moves nodes (spots_of rows places) i at.fixed)
 
+abbrev pub corner_with : ℤ → ℤ → Corner
+corner_with x y = record { x = x; y = y }
+
 -- the corner of a fixed node of the design lies near
 pub node_near : (design : DesignValue) (i : ℕ) → IsDesign design → i < length design.nodes → IsNearCorner (record { x = (node_value_at design.nodes i).x; y = (node_value_at design.nodes i).y })
 node_near design i valid there = let good = good_node design i valid there in record { x = good.x; y = good.y }
@@ -216,12 +228,13 @@ lines_more nodes corners lines more line i h pushed is =
     ∙ ap (λ (entry : PlaceEntry). map (place_of nodes corners) (range_with_len 0 i) ++ entry ∷ []) is ∙ sym (map-range_with_len_more (place_of nodes corners) 0 i i (zero-add i))
 
 -- the line of the node and the corner that are read
-pub line_read : (nodes : List Node) (corners : List Corner) (i : ℕ) (node : Node) (corner : Corner) → i < length nodes → length corners ≡ length nodes → node ≡ get_or nodes i node → corner ≡ get_or corners i corner
-    → place_with (node_value node) corner i ≡ place_of (node_values nodes) corners i
-line_read nodes corners i node corner there each is at =
-    let inside : i < length corners = omega (arith, there, each) in
-    ap (λ (value : NodeValue). place_with value corner i) (ap node_value is ∙ sym (get_or-map node_value nodes i node no_node there))
-    ∙ ap (λ (c : Corner). place_with (node_value_at (node_values nodes) i) c i) (get_or_read corners i corner inside at (record { x = pos 0; y = pos 0 }))
+pub line_read : (nodes : List Node) (corners : List Corner) (i : ℕ) → i < length nodes → length corners ≡ length nodes
+    → place_with (node_value (get_or nodes i no_record)) (corner_at corners i) i ≡ place_of (node_values nodes) corners i
+line_read nodes corners i there each = ap (λ (value : NodeValue). place_with value (corner_at corners i) i) (sym (get_or-map node_value nodes i no_record no_node there))
+
+-- a corner of these numbers
+pub same_corner : (x y a b : ℤ) → x ≡ a → y ≡ b → corner_with x y ≡ corner_with a b
+same_corner x y a b e f = ap (λ (z : ℤ). corner_with z y) e ∙ ap (λ (z : ℤ). corner_with a z) f
 
 -- the node that is read
 pub node_read : (design : DesignValue) (nodes : List Node) (i : ℕ) (node : Node) → node_values nodes ≡ design.nodes → i < length nodes → node ≡ get_or nodes i node → node_value node ≡ node_value_at design.nodes i

@@ -113,7 +113,7 @@ measures design corners (Err refusal) = ⊥
 
 -- and with the text the report: of the design, of the gap of all levels, and of the wire length
 abbrev pub reports : DesignValue → ℕ → List Level → List ℕ → ℕ → Result PlacedValue Refusal → Type 0
-reports design count levels file wire (Ok placed) = (placed.file ≡ file) × ((gap : ℕ) × IsGap levels gap × (placed.report ≡ report_of design count gap wire))
+reports design count levels file wire (Ok placed) = (gap : ℕ) × IsGap levels gap × (placed.file ≡ file) × (placed.report ≡ report_of design count gap wire)
 reports design count levels file wire (Err refusal) = ⊥
 
 -- the steps from the places on

@@ -181,10 +181,10 @@ pub placement_text-requires : goal.placement_text-requires
 placement_text-requires g c = each_as c.in_ok-design.design c.in_ok-segments.segments c.in_ok-sites.sites _ _ c.deref-3.ensures.value c.in_ok-corners.ensures.corners
 
 pub hpwl-requires-clause-each : goal.hpwl-requires-clause-each
-hpwl-requires-clause-each g c = each_as c.in_ok-design.design c.in_ok-segments.segments c.in_ok-sites.sites _ _ c.deref-4.ensures.value c.in_ok-corners.ensures.corners
+hpwl-requires-clause-each g c = λ κs lives. each_as c.in_ok-design.design c.in_ok-segments.segments c.in_ok-sites.sites _ c.deref-4.result.now c.deref-4.ensures.value c.in_ok-corners.ensures.corners
 
 pub hpwl-requires-clause-near : goal.hpwl-requires-clause-near
-hpwl-requires-clause-near g c =
+hpwl-requires-clause-near g c = λ κs lives.
     let P : List Corner → Type 0 = λ list. All IsNearCorner list in
     subst P (sym c.deref-4.ensures.value) c.in_ok-corners.ensures.near
 
@@ -197,7 +197,7 @@ placed_whole count texts design network levels rows cells places corners for_tex
     let text = file ∙ ap (placement_of design) e in
     let length_is = long ∙ ap (wire_length design) f in
     (
-      (h.0, h.1, (design, h.2, (network, made, (tt, chains, (levels, solved, (rows, spaced, (cells, are, (places, legalised, (corners, stand, (placed.file.items, text, (wire, length_is, (refl, gap, is_gap, report)))))))))))),
+      (h.0, h.1, (design, h.2, (network, made, (tt, chains, (levels, solved, (rows, spaced, (cells, are, (places, legalised, (corners, stand, (placed.file.items, text, (wire, length_is, (gap, is_gap, refl, report)))))))))))),
       record { records = h.0; design = design; spots = spots_of rows places; read = h.1; joined = h.2; legal = legal; is_text = text ∙ ap (placement_of design) stand },
     )
 
@@ -208,4 +208,4 @@ returns g c =
     placed_whole c.args.count _ c.in_ok-design.design c.in_ok-network.network c.in_ok-levels.levels c.in_ok-segments.segments cells c.in_ok-sites.sites c.in_ok-corners.corners.items c.deref-3.result.now c.deref-4.result.now
     c.in_ok-wire.wire c.gap.result (record { file = c.in_ok-file.file; report = c.in_ok-report.report }) c.in_ok-design.ensures c.in_ok-network.ensures (chained c.in_ok-network.network c.in_ok-reach.ensures.chains)
     c.in_ok-levels.ensures.solved c.in_ok-segments.ensures.segments are c.in_ok-sites.ensures.answer c.corners.ensures.legal c.in_ok-corners.ensures.corners c.deref-3.ensures.value c.in_ok-file.ensures
-    c.deref-4.ensures.value c.in_ok-wire.ensures c.gap.ensures c.in_ok-report.ensures
+    c.deref-4.ensures.value c.in_ok-wire.ensures.wire c.gap.ensures c.in_ok-report.ensures.text
