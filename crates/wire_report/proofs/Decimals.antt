@@ -1,5 +1,5 @@
 -- The decimal of a number of millionths that isn't negative: its whole part, and what is left of it.
-use Rattle.std.proofs.Common.{◌≡◌, ℕ, ◌+◌, ◌^◌, ◌/◌, ◌%◌, ◌<◌, Bool, List, [], ◌∷◌, ◌++◌, decimal, pos, ◌∙◌, ap, arith}
+use Rattle.std.proofs.Common.{◌≡◌, ℕ, ◌^◌, ◌/◌, ◌%◌, ◌<◌, Bool, List, [], ◌∷◌, ◌++◌, decimal, pos, ◌∙◌, ap, arith}
 use Rattle.std.specs.Prelude.{ℤ, if◌then◌else◌}
 use mir.Syntax.{w128}
 use mir.Val.{to_z, of_z}

@@ -24,11 +24,11 @@ pub counts_put : (design : DesignValue) (old a b c d new : List ℕ) (cells term
     → new ≡ old ++ counts_line design
 counts_put design old a b c d new cells terminals nets pins first second third fourth last m t n p =
     let whole : new ≡ old ++ ended (codes "cells " ++ decimal cells ++ codes " terminals " ++ decimal terminals ++ codes " nets " ++ decimal nets ++ codes " pins " ++ decimal pins) =
-        rw (last, fourth, third, second, first) (simp append_assoc) in
+    rw (last, fourth, third, second, first) (simp append_assoc) in
     let line : ℕ → ℕ → ℕ → ℕ → List ℕ = λ i j k l. old ++ ended (codes "cells " ++ decimal i ++ codes " terminals " ++ decimal j ++ codes " nets " ++ decimal k ++ codes " pins " ++ decimal l) in
     whole ∙ ap (λ i. line i terminals nets pins) m ∙ ap (λ j. line (count_by is_movable design.nodes) j nets pins) t
-        ∙ ap (λ k. line (count_by is_movable design.nodes) (count_by (λ node. node.fixed) design.nodes) k pins) n
-        ∙ ap (line (count_by is_movable design.nodes) (count_by (λ node. node.fixed) design.nodes) (length design.nets)) p
+    ∙ ap (λ k. line (count_by is_movable design.nodes) (count_by (λ node. node.fixed) design.nodes) k pins) n
+    ∙ ap (line (count_by is_movable design.nodes) (count_by (λ node. node.fixed) design.nodes) (length design.nets)) p
 
 pub levels_put : (old a b new : List ℕ) (levels gap l g : ℕ) → l ≡ levels → g ≡ gap → a ≡ old ++ codes "levels " ++ decimal l → b ≡ a ++ codes " gap " ++ decimal g → new ≡ b ++ 10 ∷ []
     → new ≡ old ++ levels_line levels gap

@@ -1,5 +1,5 @@
 -- The rectangle from the least to the greatest x and y of pins is the smallest around them.
-use Rattle.std.proofs.Common.{◌≡◌, ◌⊎◌, ℕ, ◌+◌, ◌<◌, List, [], ◌∷◌, length, map, get_or, ℤ, pos, negsuc, nat_abs, ◌≤ℤ◌, ◌+ℤ◌, ◌-ℤ◌, ◌∙◌, ap, sym, subst, refl, ⊎_elim, All, arith}
+use Rattle.std.proofs.Common.{◌≡◌, ℕ, ◌+◌, ◌<◌, List, [], ◌∷◌, length, map, get_or, ℤ, pos, negsuc, nat_abs, ◌≤ℤ◌, ◌+ℤ◌, ◌-ℤ◌, sym, subst, refl, ⊎_elim, All, arith}
 use Rattle.std.proofs.lemmas.Int.{ints, fold-int_max_bounds, fold-int_max_reached, fold-int_min_bounds, fold-int_min_reached}
 use Rattle.std.proofs.lemmas.List.{get_or-map, length-map}
 use Rattle.std.proofs.lemmas.List.Elements.{All-cons, All-head, All-tail, All-map}
@@ -7,7 +7,7 @@ use Rattle.book_design.specs.declared.parts.Pin.{Pin}
 use Rattle.book_design.specs.Values.{DesignValue, NetValue}
 use Rattle.wire_report.specs.declared.corner.Corner.{Corner}
 use Rattle.wire_report.specs.Wire.{greatest, least, spread, pin_x, pin_y, net_length}
-use Rattle.wire_report.specs.Rectangles.{Rectangle, HasPin, IsAround, IsSmallestAround, rectangle_around, width, height}
+use Rattle.wire_report.specs.Rectangles.{Rectangle, IsAround, IsSmallestAround, rectangle_around, width, height}
 
 pub above_least : (zs : List ℤ) → All (λ z. least zs ≤ℤ z) zs
 above_least [] = λ k d lt. absurd (omega (arith, lt))
@@ -87,5 +87,5 @@ length_is design corners net rectangle some smallest =
     let across : 0 < length xs = omega (arith, length-map net.pins (pin_x design corners), some) in
     let up : 0 < length ys = omega (arith, length-map net.pins (pin_y design corners), some) in
     same_sides (width tight) (width rectangle) (height tight) (height rectangle) (spread xs) (spread ys)
-        (own.width rectangle smallest.around) (smallest.width tight own.around) (own.height rectangle smallest.around) (smallest.height tight own.around)
-        (spread_is xs across) (spread_is ys up)
+    (own.width rectangle smallest.around) (smallest.width tight own.around) (own.height rectangle smallest.around) (smallest.height tight own.around)
+    (spread_is xs across) (spread_is ys up)

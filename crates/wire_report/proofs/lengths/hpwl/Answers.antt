@@ -1,4 +1,4 @@
-use Rattle.std.proofs.Common.{◌≡◌, ◌%◌, ◌^◌, ◌<◌, ◌∷◌, [], ◌++◌, List, ℕ, length, ap, ◌∙◌, arith}
+use Rattle.std.proofs.Common.{◌≡◌, ◌%◌, ◌^◌, ◌<◌, ◌∷◌, [], List, ℕ, length, ap, ◌∙◌, arith}
 use Rattle.std.specs.Prelude.{sum}
 use Rattle.std.specs.List.{sum_by}
 use Rattle.rayon.proofs.ListFacts.{sum-append}
@@ -26,13 +26,15 @@ returns g c =
     let nets = c.nets.result.now in
     let done = c.reduce.ensures in
     let wrapped = Reduces-elim _ _ IsWrappedSum
-        (λ e zero. zero)
-        (λ xs a x r before step. let one : sum (x ∷ []) ≡ x = omega arith in omega (arith, sum-append xs (x ∷ [])))
-        (λ xs ys a b r left right step. omega (arith, sum-append xs ys))
-        done.0 c.reduce.result done.2 in
+    (λ e zero. zero)
+    (λ xs a x r before step. let one : sum (x ∷ []) ≡ x = omega arith in omega (arith, sum-append xs (x ∷ [])))
+    (λ xs ys a b r left right step. omega (arith, sum-append xs ys))
+    done.0 c.reduce.result done.2 in
     let chain = rw (c.map.ensures.base, c.map.ensures.f) at done.1 in
     let shown = chain.1 ∙ c.par_iter.ensures in
     let lengths = slice-AllZip chain.0 nets shown (λ net y. (y ≡ net_length design corners (net_value net)) × (y < 2 ^ 64)) done.0 chain.2 in
     let short : length nets < 2 ^ 32 = omega (arith, nets_counted nets design c.nets.ensures.nets, c.nets.ensures.valid.few_nets) in
-    record { wire = whole_sum net_value (net_length design corners) nets done.0 c.reduce.result short lengths wrapped
-        ∙ ap (λ (list : List NetValue). sum_by (net_length design corners) list) c.nets.ensures.nets }
+    record {
+      wire = whole_sum net_value (net_length design corners) nets done.0 c.reduce.result short lengths wrapped
+          ∙ ap (λ (list : List NetValue). sum_by (net_length design corners) list) c.nets.ensures.nets;
+    }

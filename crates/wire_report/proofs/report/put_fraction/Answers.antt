@@ -1,5 +1,4 @@
-use Rattle.std.proofs.Common.{◌≡◌, ◌≤◌, ◌∷◌, ◌++◌, List, ℕ, length, drop, ◌∙◌, ap, arith}
-use Rattle.book_text.specs.Decimal.{fraction_text}
+use Rattle.std.proofs.Common.{◌++◌, List, ℕ, length, drop, ◌∙◌, ap, arith}
 use Rattle.wire_report.proofs.Decimals.{put_of_less}
 use Rattle.wire_report.proofs.report.put_fraction.Goals as goal
 
