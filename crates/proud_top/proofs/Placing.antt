@@ -1,27 +1,26 @@
 -- The lines of a placement, node by node.
 use Rattle.std.proofs.Common.{◌≡◌, ℕ, ◌+◌, ◌*◌, ◌<◌, ◌≤◌, Bool, true, false, List, [], ◌∷◌, ◌++◌, length, get_or, map, refl, sym, ◌∙◌, ap, subst, arith, zero-add, ℤ, pos, negsuc, ◌+ℤ◌, ◌*ℤ◌, ◌≤ℤ◌, neg_ℤ, rules, w64, to_z, of_z}
 use mir.Val.{SFits}
-use Rattle.std.specs.Prelude.{Option, Some, None, not, All, if◌then◌else◌}
+use Rattle.std.specs.Prelude.{Some, None, All, if◌then◌else◌}
 use Rattle.std.specs.List.{count_by, range_with_len, AllByRecursion}
 use Rattle.std.proofs.Math.Nat.{mul-le-mul_right}
 use Rattle.std.proofs.lemmas.Int.{ints, to_z-of_z}
-use Rattle.std.proofs.lemmas.List.{get_or-map, length-map, map-append}
+use Rattle.std.proofs.lemmas.List.{get_or-map, map-append}
 use Rattle.std.proofs.lemmas.List.FromFn.{map-range_with_len_more, length-map-range_with_len, get_or-map-range_with_len}
 use Rattle.std.proofs.lemmas.List.Elements.{All-from_get_or, All-push, recursion_from_All}
 use Rattle.book_files.specs.declared.records.PlaceLine.{PlaceLine}
 use Rattle.book_files.specs.Entries.{PlaceEntry, place_entry, place_entries}
 use Rattle.book_files.specs.Ranges.{IsName}
-use Rattle.book_files.specs.declared.orient.Orient.TheVariants.{N}
 use Rattle.book_design.specs.declared.parts.Node.{Node}
 use Rattle.book_design.specs.Values.{NodeValue, DesignValue, node_value, node_values}
-use Rattle.book_design.specs.Points.{is_movable, node_value_at, movable_before, IsNodeOf}
+use Rattle.book_design.specs.Points.{is_movable, node_value_at, movable_before}
 use Rattle.book_design.specs.WellFormed.{IsDesign}
 use Rattle.row_space.specs.declared.parts.Segment.{Segment}
 use Rattle.row_space.specs.Values.{SegmentsValue, segment_at}
 use Rattle.row_space.specs.Ends.{IsGoodSegment, AreGoodSegments}
 use Rattle.row_legal.specs.declared.parts.Place.{Place}
 use Rattle.row_legal.specs.Cells.{CellsValue, count}
-use Rattle.row_legal.specs.Places.{IsLegalised, place_at}
+use Rattle.row_legal.specs.Places.{IsLegalised}
 use Rattle.row_legal.specs.Apart.{AreApart}
 use Rattle.row_legal.specs.Legal.{Spot, spot_at, IsLegal}
 use Rattle.row_legal.specs.Spots.{spot_of, spots_of, AreSitesOf}

@@ -1,18 +1,17 @@
 -- The points of a design as cells: what the greedy rule may take for granted of them.
-use Rattle.std.proofs.Common.{◌≡◌, ◌≢◌, ◌⊎◌, inl, inr, ℕ, suc, ◌+◌, ◌*◌, ◌/◌, ◌<◌, ◌≤◌, Bool, true, false, cond, List, [], ◌∷◌, ◌++◌, length, get_or, refl, sym, ◌∙◌, ap, subst, arith, zero-add, ℤ, pos, negsuc, ◌+ℤ◌, ◌-ℤ◌, ◌≤ℤ◌, neg_ℤ}
-use Rattle.std.specs.Prelude.{slice_index, max, not, nat_abs, Contains}
+use Rattle.std.proofs.Common.{◌≡◌, ◌≢◌, ◌⊎◌, inl, inr, ℕ, ◌+◌, ◌/◌, ◌<◌, ◌≤◌, false, List, [], ◌∷◌, ◌++◌, length, get_or, refl, sym, ◌∙◌, ap, subst, arith, ℤ, pos, ◌≤ℤ◌}
+use Rattle.std.specs.Prelude.{slice_index, nat_abs, Contains}
 use Rattle.std.specs.Int.{div_ceil}
-use Rattle.std.specs.List.{count_by, sum_by, range_with_len}
+use Rattle.std.specs.List.{count_by, range_with_len}
 use Rattle.std.proofs.Math.Nat.{mul-le-mul_right}
 use Rattle.std.proofs.lemmas.Bool.{cases_eq}
 use Rattle.std.proofs.lemmas.Int.{ints}
 use Rattle.std.proofs.lemmas.List.{get_or_push, get_or_append_left, length_push, get_or-map, get_or_read, length-map}
 use Rattle.std.proofs.lemmas.List.FromFn.{length-range_with_len, get_or-range_with_len}
-use Rattle.std.proofs.lemmas.List.Sums.{count_by-le-length, sum_by-append}
+use Rattle.std.proofs.lemmas.List.Sums.{count_by-le-length}
 use Rattle.std.proofs.lemmas.List.Elements.{All-from_recursion, Contains-append_right}
 use Rattle.std.proofs.lemmas.List.Sorted.{IsPermutation-sym, Contains-permutation}
 use Rattle.book_text.specs.declared.decimal.TheConstants.{MOST_MICRO}
-use Rattle.book_text.specs.Coordinates.{micro_of}
 use Rattle.book_design.specs.Values.{NodeValue, DesignValue, node_value, node_values}
 use Rattle.book_design.specs.Points.{is_movable, node_value_at, IsNodeOf, site_count}
 use Rattle.book_design.specs.WellFormed.{IsDesign, IsGoodNode}

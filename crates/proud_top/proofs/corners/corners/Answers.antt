@@ -1,4 +1,4 @@
-use Rattle.std.proofs.Common.{ℕ, List, sym, ap, subst}
+use Rattle.std.proofs.Common.{List, sym, subst}
 use Rattle.std.specs.List.{count_by}
 use Rattle.book_design.specs.Points.{is_movable}
 use Rattle.row_legal.specs.declared.parts.Place.{Place}

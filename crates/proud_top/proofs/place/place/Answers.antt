@@ -195,8 +195,7 @@ placed_whole : (count : ℕ) (texts : Texts) (design : DesignValue) (network : N
     → wire ≡ wire_length design for_wire → IsGap levels gap → placed.report.items ≡ report_of design count gap wire → Places count texts (Ok placed)
 placed_whole count texts design network levels rows cells places corners for_text for_wire wire gap placed h made chains solved spaced are legalised legal stand e file f long is_gap report =
     let text = file ∙ ap (placement_of design) e in
-    let length_is = long ∙ ap (wire_length design) f in
-    (
+    let length_is = long ∙ ap (wire_length design) f in (
       (h.0, h.1, (design, h.2, (network, made, (tt, chains, (levels, solved, (rows, spaced, (cells, are, (places, legalised, (corners, stand, (placed.file.items, text, (wire, length_is, (gap, is_gap, refl, report)))))))))))),
       record { records = h.0; design = design; spots = spots_of rows places; read = h.1; joined = h.2; legal = legal; is_text = text ∙ ap (placement_of design) stand },
     )
