@@ -316,7 +316,7 @@ fn assert_many_nets<R: Threads + Abort + Sync>(
 fn points_that_are_too_heavy_are_named(rt: HostRuntime) -> Result<(), Fail> {
     let light = End {
         status: Status::Done,
-        report: b"cells 1 terminals 2 nets 19973 pins 39946\nlevels 4 gap 0\n",
+        report: b"cells 1 terminals 2 nets 19973 pins 39946\nlevels 4 gap 0\nwire 19973\n",
     };
     assert_many_nets(&rt, rt.alloc(), 19_973, light)?;
     let heavy = End {
@@ -366,7 +366,7 @@ fn assert_many_pads<R: Threads + Abort + Sync>(
 fn nets_that_are_too_wide_are_named(rt: HostRuntime) -> Result<(), Fail> {
     let narrow = End {
         status: Status::Done,
-        report: b"cells 2 terminals 510 nets 1 pins 512\nlevels 0 gap 2\n",
+        report: b"cells 2 terminals 510 nets 1 pins 512\nlevels 0 gap 2\nwire 3\n",
     };
     assert_many_pads(&rt, rt.alloc(), 510, narrow)?;
     let wide = End {

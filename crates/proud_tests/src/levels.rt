@@ -35,50 +35,50 @@ const RUNS: [Run; 9] = [
         &["proud", "--levels", "0", "a.aux"],
         THREE_PADS,
         b"UCLA pl 1.0\na 2 0 : N\nl 0 5 : N /FIXED\nr 10 5 : N /FIXED\nm 0 5 : N /FIXED\n",
-        b"cells 1 terminals 3 nets 3 pins 6\nlevels 0 gap 1\n",
+        b"cells 1 terminals 3 nets 3 pins 6\nlevels 0 gap 1\nwire 13\n",
     ),
     (
         &["proud", "--levels", "0", "a.aux"],
         TWO_CELLS,
         NEAR,
-        b"cells 2 terminals 2 nets 3 pins 6\nlevels 0 gap 2\n",
+        b"cells 2 terminals 2 nets 3 pins 6\nlevels 0 gap 2\nwire 10\n",
     ),
     // the cells are in two halves of the core, and the gap is that of the level before
     (
         &["proud", "--levels", "1", "a.aux"],
         TWO_CELLS,
         APART,
-        b"cells 2 terminals 2 nets 3 pins 6\nlevels 1 gap 2\n",
+        b"cells 2 terminals 2 nets 3 pins 6\nlevels 1 gap 2\nwire 10\n",
     ),
     (
         &["proud", "--levels", "01", "--seats", "7", "a.aux"],
         TWO_CELLS,
         APART,
-        b"cells 2 terminals 2 nets 3 pins 6\nlevels 1 gap 2\n",
+        b"cells 2 terminals 2 nets 3 pins 6\nlevels 1 gap 2\nwire 10\n",
     ),
     (
         &["proud", "--levels", "12", "--seats", "1", "a.aux"],
         TWO_CELLS,
         APART,
-        b"cells 2 terminals 2 nets 3 pins 6\nlevels 12 gap 2\n",
+        b"cells 2 terminals 2 nets 3 pins 6\nlevels 12 gap 2\nwire 10\n",
     ),
     (
         &["proud", "--levels", "0", "a.aux"],
         USUAL,
         ROWS,
-        b"cells 2 terminals 3 nets 3 pins 7\nlevels 0 gap 1\n",
+        b"cells 2 terminals 3 nets 3 pins 7\nlevels 0 gap 1\nwire 37.5\n",
     ),
     (
         &["proud", "--levels", "1", "a.aux"],
         USUAL,
         ROWS,
-        b"cells 2 terminals 3 nets 3 pins 7\nlevels 1 gap 1\n",
+        b"cells 2 terminals 3 nets 3 pins 7\nlevels 1 gap 1\nwire 37.5\n",
     ),
     (
         &["proud", "--levels", "2", "a.aux"],
         NO_CELL,
         b"UCLA pl 1.0\np 3 4 : N /FIXED\n",
-        b"cells 0 terminals 1 nets 0 pins 0\nlevels 2 gap 0\n",
+        b"cells 0 terminals 1 nets 0 pins 0\nlevels 2 gap 0\nwire 0\n",
     ),
 ];
 

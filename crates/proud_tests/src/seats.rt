@@ -34,7 +34,7 @@ const BAD: [&[&str]; 7] = [
 fn seats_may_be_asked_for(rt: HostRuntime) -> Result<(), Fail> {
     let file: &'static [u8] =
         b"UCLA pl 1.0\na 2 0 : N\nb 7 0 : N\nl 0 5 : N /FIXED\nr 10 5 : N /FIXED\n";
-    let report: &'static [u8] = b"cells 2 terminals 2 nets 3 pins 6\nlevels 4 gap 2\n";
+    let report: &'static [u8] = b"cells 2 terminals 2 nets 3 pins 6\nlevels 4 gap 2\nwire 10\n";
     let done = placed(TWO_CELLS, file, report);
     for words in GOOD {
         assert_case(&rt, rt.alloc(), Case { words, ..done })?;
@@ -56,7 +56,7 @@ fn seats_may_be_asked_for(rt: HostRuntime) -> Result<(), Fail> {
     let empty = placed(
         NO_CELL,
         b"UCLA pl 1.0\np 3 4 : N /FIXED\n",
-        b"cells 0 terminals 1 nets 0 pins 0\nlevels 4 gap 0\n",
+        b"cells 0 terminals 1 nets 0 pins 0\nlevels 4 gap 0\nwire 0\n",
     );
     assert_case(&rt, rt.alloc(), Case { words, ..empty })?;
     Ok(())

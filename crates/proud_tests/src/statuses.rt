@@ -13,27 +13,31 @@ type Run = (Texts<'static>, &'static [u8], &'static [u8]);
 
 const PLACED: [Run; 10] = [
     (ONE_CELL, MIDDLE, MIDDLE_REPORT),
-    (SPELT_ANEW, MIDDLE, MIDDLE_REPORT),
+    (
+        SPELT_ANEW,
+        MIDDLE,
+        b"cells 1 terminals 2 nets 2 pins 4\nlevels 4 gap 0\nwire 10.5\n",
+    ),
     (
         THREE_PADS,
         b"UCLA pl 1.0\na 2 0 : N\nl 0 5 : N /FIXED\nr 10 5 : N /FIXED\nm 0 5 : N /FIXED\n",
-        b"cells 1 terminals 3 nets 3 pins 6\nlevels 4 gap 1\n",
+        b"cells 1 terminals 3 nets 3 pins 6\nlevels 4 gap 1\nwire 13\n",
     ),
     (
         TWO_CELLS,
         b"UCLA pl 1.0\na 2 0 : N\nb 7 0 : N\nl 0 5 : N /FIXED\nr 10 5 : N /FIXED\n",
-        b"cells 2 terminals 2 nets 3 pins 6\nlevels 4 gap 2\n",
+        b"cells 2 terminals 2 nets 3 pins 6\nlevels 4 gap 2\nwire 10\n",
     ),
     // the macro m leaves 14 sites of the rows at 0 and at 12, so v has its wish in the row at 24
     (
         USUAL,
         b"UCLA pl 1.0\nu 6 12 : N\nv 14 24 : N\nm 14 0 : N /FIXED\ni -1 18 : N /FIXED\nq 20 30 : N /FIXED\n",
-        b"cells 2 terminals 3 nets 3 pins 7\nlevels 4 gap 1\n",
+        b"cells 2 terminals 3 nets 3 pins 7\nlevels 4 gap 1\nwire 37.5\n",
     ),
     (
         NO_CELL,
         b"UCLA pl 1.0\np 3 4 : N /FIXED\n",
-        b"cells 0 terminals 1 nets 0 pins 0\nlevels 4 gap 0\n",
+        b"cells 0 terminals 1 nets 0 pins 0\nlevels 4 gap 0\nwire 0\n",
     ),
     // the terminal l stands beside the core: it is clamped to the core's left end, and stays where it is
     (
@@ -42,7 +46,7 @@ const PLACED: [Run; 10] = [
             ..ONE_CELL
         },
         b"UCLA pl 1.0\na 4 0 : N\nl -50 5 : N /FIXED\nr 10 5 : N /FIXED\n",
-        MIDDLE_REPORT,
+        b"cells 1 terminals 2 nets 2 pins 4\nlevels 4 gap 0\nwire 60\n",
     ),
     // the wish lies in the middle of two sites, and the cell has an orientation of its own
     (
@@ -53,7 +57,7 @@ const PLACED: [Run; 10] = [
             ..ONE_CELL
         },
         b"UCLA pl 1.0\na 5 0 : FS\nl 0 5 : N /FIXED\nr 10 5 : N /FIXED\n",
-        MIDDLE_REPORT,
+        b"cells 1 terminals 2 nets 2 pins 4\nlevels 4 gap 0\nwire 9\n",
     ),
     (
         Texts {
@@ -61,7 +65,7 @@ const PLACED: [Run; 10] = [
             ..WEIGHTED
         },
         b"UCLA pl 1.0\na 0 0 : N\nl 0 5 : N /FIXED\nr 10 5 : N /FIXED\n",
-        b"cells 1 terminals 2 nets 2 pins 4\nlevels 4 gap 1\n",
+        b"cells 1 terminals 2 nets 2 pins 4\nlevels 4 gap 1\nwire 10\n",
     ),
     // a name of weights that no net has is without effect
     (

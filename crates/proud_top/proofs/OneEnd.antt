@@ -16,7 +16,7 @@ use Rattle.pad_reach.specs.Reaches.{IsFirstUnanchored}
 use Rattle.net_model.specs.Values.{NetworkValue}
 use Rattle.net_model.specs.Webs.{joints_of}
 use Rattle.level_run.specs.declared.level.Level.{Level}
-use Rattle.level_run.specs.Levels.{IsLevels, level_at}
+use Rattle.level_run.specs.Levels.{IsLevels, IsGap, level_at}
 use Rattle.row_space.specs.Values.{SegmentsValue}
 use Rattle.row_space.specs.Runs.{segments_of}
 use Rattle.row_legal.specs.declared.parts.Place.{Place}
@@ -25,13 +25,14 @@ use Rattle.row_legal.specs.Cells.{CellsValue}
 use Rattle.row_legal.specs.Places.{IsLegalised}
 use Rattle.row_legal.specs.Answers.{HasNoRoom}
 use Rattle.row_legal.specs.Spots.{AreSitesOf}
+use Rattle.wire_report.specs.declared.corner.Corner.{Corner}
+use Rattle.wire_report.specs.Report.{report_of}
 use Rattle.proud_top.specs.declared.status.Refusal.{Refusal}
 use Rattle.proud_top.specs.declared.status.Refusal.TheVariants.{TooLong, Text, Design, Net, Unanchored, NoRoom}
 use Rattle.proud_top.specs.Accepted.{Accepts, IsFaultOf, IsTooLong, IsBadText}
 use Rattle.proud_top.specs.Request.{RequestValue}
 use Rattle.proud_top.specs.Wishes.{AreWishes, AreCells, wish_in}
-use Rattle.proud_top.specs.Report.{report_of, IsReportOf}
-use Rattle.proud_top.specs.Flow.{PlacedValue, ◌then◌, reads_known, reads, joins, wires, reaches, solves, spaces, wishes, legalises, writes, reports, places_levels, places_records, places}
+use Rattle.proud_top.specs.Flow.{PlacedValue, ◌then◌, reads_known, reads, joins, wires, reaches, solves, spaces, wishes, legalises, stands, writes, measures, reports, places_corners, places_levels, places_records, places}
 use Rattle.proud_top.proofs.Nodes.{node_there}
 use Rattle.proud_top.proofs.Once.{OneAnswer, one_text, long_stops, bad_stops, next_once, stops_once, accepts_all, accepts_once, fault_once}
 
@@ -208,15 +209,25 @@ one_legalises one rows cells (Ok x) (Err q) h (c, s, l, e, k) = absurd ((one.gre
 one_legalises one rows cells (Err r) (Ok y) (c, s, l, e, h) k = absurd ((one.greedy rows cells).not_both y c s l k h)
 one_legalises one rows cells (Err r) (Err q) (c, s, l, e, h) (d, t, m, f, k) = ap Err (e ∙ one_stuck one rows cells c d s t l m h k ∙ sym f)
 
-pub one_writes : (design : DesignValue) (rows : SegmentsValue) (places : List Place) (a b : Result (List ℕ) Refusal) → writes design rows places a → writes design rows places b → a ≡ b
-one_writes design rows places (Ok x) (Ok y) h k = ap Ok (h ∙ sym k)
-one_writes design rows places (Ok x) (Err q) h k = absurd k
-one_writes design rows places (Err r) b h k = absurd h
+-- at these places there is one list of corners, one text of them and one wire length
+pub one_stands : (design : DesignValue) (rows : SegmentsValue) (places : List Place) (a b : Result (List Corner) Refusal) → stands design rows places a → stands design rows places b → a ≡ b
+one_stands design rows places (Ok x) (Ok y) h k = ap Ok (h ∙ sym k)
+one_stands design rows places (Ok x) (Err q) h k = absurd k
+one_stands design rows places (Err r) b h k = absurd h
+
+pub one_writes : (design : DesignValue) (corners : List Corner) (a b : Result (List ℕ) Refusal) → writes design corners a → writes design corners b → a ≡ b
+one_writes design corners (Ok x) (Ok y) h k = ap Ok (h ∙ sym k)
+one_writes design corners (Ok x) (Err q) h k = absurd k
+one_writes design corners (Err r) b h k = absurd h
+
+pub one_measures : (design : DesignValue) (corners : List Corner) (a b : Result ℕ Refusal) → measures design corners a → measures design corners b → a ≡ b
+one_measures design corners (Ok x) (Ok y) h k = ap Ok (h ∙ sym k)
+one_measures design corners (Ok x) (Err q) h k = absurd k
+one_measures design corners (Err r) b h k = absurd h
 
 -- and levels have one gap
-one_report : OneAnswer → (design : DesignValue) (count : ℕ) (levels : List Level) (s t : List ℕ) → IsReportOf design count levels s → IsReportOf design count levels t → s ≡ t
-one_report one design count levels s t h k =
-    h.lines ∙ ap (λ (gap : ℕ). report_of design count gap) (one.gap levels h.gap k.gap h.is_gap k.is_gap) ∙ sym k.lines
+one_report : OneAnswer → (design : DesignValue) (count : ℕ) (levels : List Level) (wire : ℕ) (s t : List ℕ) (g k : ℕ) → IsGap levels g → s ≡ report_of design count g wire → IsGap levels k → t ≡ report_of design count k wire → s ≡ t
+one_report one design count levels wire s t g k is s_is other t_is = s_is ∙ ap (λ (gap : ℕ). report_of design count gap wire) (one.gap levels g k is other) ∙ sym t_is
 
 both_texts : (a b : PlacedValue) → a.file ≡ b.file → a.report ≡ b.report → a ≡ b
 both_texts a b e f =
@@ -224,19 +235,22 @@ both_texts a b e f =
     let Q : List ℕ → Type 0 = λ report. a ≡ record { file = b.file; report = report } in
     subst Q f (subst P e refl)
 
-pub one_reports : OneAnswer → (design : DesignValue) (count : ℕ) (levels : List Level) (file : List ℕ) (a b : Result PlacedValue Refusal) → reports design count levels file a → reports design count levels file b → a ≡ b
-one_reports one design count levels file (Ok s) (Ok t) h k = ap Ok (both_texts s t (h.0 ∙ sym k.0) (one_report one design count levels s.report t.report h.1 k.1))
-one_reports one design count levels file (Ok s) (Err q) h k = absurd k
-one_reports one design count levels file (Err r) b h k = absurd h
+pub one_reports : OneAnswer → (design : DesignValue) (count : ℕ) (levels : List Level) (file : List ℕ) (wire : ℕ) (a b : Result PlacedValue Refusal) → reports design count levels file wire a → reports design count levels file wire b → a ≡ b
+one_reports one design count levels file wire (Ok s) (Ok t) (g, is, e, s_is) (k, other, f, t_is) = ap Ok (both_texts s t (e ∙ sym f) (one_report one design count levels wire s.report t.report g k is s_is other t_is))
+one_reports one design count levels file wire (Ok s) (Err q) h k = absurd k
+one_reports one design count levels file wire (Err r) b h k = absurd h
 
-abbrev from_places : ℕ → DesignValue → List Level → SegmentsValue → List Place → Result PlacedValue Refusal → Type 0
-from_places count design levels rows places = writes design rows places then λ file. reports design count levels file
+abbrev from_file : ℕ → DesignValue → List Level → List Corner → List ℕ → Result PlacedValue Refusal → Type 0
+from_file count design levels corners file = measures design corners then λ wire. reports design count levels file wire
+
+abbrev from_corners : ℕ → DesignValue → List Level → List Corner → Result PlacedValue Refusal → Type 0
+from_corners count design levels corners = writes design corners then λ file. measures design corners then λ wire. reports design count levels file wire
 
 abbrev from_cells : ℕ → DesignValue → List Level → SegmentsValue → CellsValue → Result PlacedValue Refusal → Type 0
-from_cells count design levels rows cells = legalises rows cells then λ places. writes design rows places then λ file. reports design count levels file
+from_cells count design levels rows cells = legalises rows cells then λ places. places_corners count design levels rows places
 
 abbrev from_spaces : ℕ → DesignValue → List Level → SegmentsValue → Result PlacedValue Refusal → Type 0
-from_spaces count design levels rows = wishes design count levels then λ cells. legalises rows cells then λ places. writes design rows places then λ file. reports design count levels file
+from_spaces count design levels rows = wishes design count levels then λ cells. legalises rows cells then λ places. places_corners count design levels rows places
 
 abbrev from_reaches : ℕ → DesignValue → NetworkValue → Result PlacedValue Refusal → Type 0
 from_reaches count design network = solves network count then λ levels. places_levels count design levels
@@ -257,8 +271,17 @@ one_end one files request =
     one_then (solves network count) (places_levels count design) (one_solves one network count) (λ levels.
     one_then (spaces design) (from_spaces count design levels) (one_spaces design) (λ rows.
     one_then (wishes design count levels) (from_cells count design levels rows) (one_wishes design count levels) (λ cells.
-    one_then (legalises rows cells) (from_places count design levels rows) (one_legalises one rows cells) (λ sites.
-    one_then (writes design rows sites) (reports design count levels) (one_writes design rows sites) (one_reports one design count levels)))))))))
+    one_then (legalises rows cells) (places_corners count design levels rows) (one_legalises one rows cells) (λ sites.
+    one_then (stands design rows sites) (from_corners count design levels) (one_stands design rows sites) (λ corners.
+    one_then (writes design corners) (from_file count design levels corners) (one_writes design corners) (λ file.
+    one_then (measures design corners) (reports design count levels file) (one_measures design corners) (one_reports one design count levels file)))))))))))
+
+-- nothing is refused behind the places
+pub never_behind : (count : ℕ) (design : DesignValue) (levels : List Level) (rows : SegmentsValue) (sites : List Place) (refusal : Refusal) → places_corners count design levels rows sites (Err refusal) → ⊥
+never_behind count design levels rows sites refusal (inl none) = none
+never_behind count design levels rows sites refusal (inr (corners, stand, inl none)) = none
+never_behind count design levels rows sites refusal (inr (corners, stand, inr (file, is, inl none))) = none
+never_behind count design levels rows sites refusal (inr (corners, stand, inr (file, is, inr (wire, measured, none)))) = none
 
 -- where the greedy rule finds room for each cell, nothing behind the levels is refused
 never_stuck : OneAnswer → (count : ℕ) (design : DesignValue) (levels : List Level) (refusal : Refusal)
@@ -266,13 +289,9 @@ never_stuck : OneAnswer → (count : ℕ) (design : DesignValue) (levels : List 
     → places_levels count design levels (Err refusal) → ⊥
 never_stuck one count design levels refusal room flow =
     by_wishes (through (spaces design) (from_spaces count design levels) (segments_of design) (Err refusal) (one_spaces design) refl flow) where
-      by_report : (rows : SegmentsValue) (sites : List Place) → from_places count design levels rows sites (Err refusal) → ⊥
-      by_report rows sites (inl none) = none
-      by_report rows sites (inr (file, is, none)) = none
-
       by_room : (cells : CellsValue) → AreCells design (level_at levels count) cells → from_cells count design levels (segments_of design) cells (Err refusal) → ⊥
       by_room cells are (inl (c, s, l, e, stuck)) = let placed = room cells are in (one.greedy (segments_of design) cells).not_both placed.0 c s l placed.1 stuck
-      by_room cells are (inr (sites, is, rest)) = by_report (segments_of design) sites rest
+      by_room cells are (inr (sites, is, rest)) = never_behind count design levels (segments_of design) sites refusal rest
 
       by_wishes : from_spaces count design levels (segments_of design) (Err refusal) → ⊥
       by_wishes (inl none) = none

@@ -32,14 +32,14 @@ use Rattle.proud_top.specs.Request.{RequestValue, requested, output_name}
 use Rattle.proud_top.specs.Accepted.{ReadsWeights, Accepts, IsLast}
 use Rattle.proud_top.specs.Wishes.{AreCells}
 use Rattle.proud_top.specs.Placement.{IsLegalText}
-use Rattle.proud_top.specs.Flow.{PlacedValue, ◌then◌, places, reads, legalises, writes, reports, places_levels, last_kind}
+use Rattle.proud_top.specs.Flow.{PlacedValue, ◌then◌, places, reads, legalises, places_corners, places_levels, last_kind}
 use Rattle.proud_top.specs.Named.{node_of_fault, point_of_fault}
 use Rattle.proud_top.specs.Statuses.{status_of, Says, HasFile, HasFront, GotFront, HasReadUpTo, IsPlacedAs, IsCause, IsDue, IsDone, IsUsage, IsRefused, IsReadFault, IsWriteFault, IsUnwritten, not_made, not_put, not_reported, IsPutUpTo, none_put, file_put, report_put, IsCutOff, cut_before, cut_in_line, cut_in_placement, IsMemory, IsPlaceable, AreReadsCalm, AreWritesCalm, ArePutsCalm, IsUntouched}
 use Rattle.proud_top.specs.Forms.Saying.{Puts, ReadsNothing, Delivers}
 use Rattle.proud_top.specs.Forms.Inputs.{Texts, AreWeights, AreRecords, HoldsWeights, HasTexts, places_texts}
 use Rattle.proud_top.specs.Forms.Stops.{StopsReading, Gathers, placed_value, Places, HasNode, HasPoint, Covers, CoversStop, IsLineOf, Refuses}
 use Rattle.proud_top.proofs.Once.{OneAnswer}
-use Rattle.proud_top.proofs.OneEnd.{one_end, never_refused}
+use Rattle.proud_top.proofs.OneEnd.{one_end, never_refused, never_behind}
 use Rattle.proud_top.proofs.Naming.{named_among}
 use Rattle.proud_top.proofs.Points.{heavy_there, loose_there}
 use Rattle.proud_top.proofs.Wishing.{stuck_there}
@@ -197,14 +197,13 @@ late_as texts refusal other e h =
 
 -- behind the levels there may be no room
 late_cells : (count : ℕ) (texts : Texts) (refusal : Refusal) (records : Records) (design : DesignValue) (levels : List Level) (rows : SegmentsValue) (cells : CellsValue) → AreRecords texts records → IsJoined records design
-    → AreCells design (level_at levels count) cells → (legalises rows cells then λ places. writes design rows places then λ file. reports design count levels file) (Err refusal) → Late texts refusal
+    → AreCells design (level_at levels count) cells → (legalises rows cells then λ places. places_corners count design levels rows places) (Err refusal) → Late texts refusal
 late_cells count texts refusal records design levels rows cells read joined are (inl (cell, sites, largest, e, stuck)) =
     late_as texts refusal (NoRoom cell sites largest) e (record {
       last = refl;
       covered = (tt, record { records = records; design = design; read = read; joined = joined; there = stuck_there design (level_at levels count) rows cells cell sites largest are stuck });
     })
-late_cells count texts refusal records design levels rows cells read joined are (inr (places, is, inl none)) = absurd none
-late_cells count texts refusal records design levels rows cells read joined are (inr (places, is, inr (file, same, none))) = absurd none
+late_cells count texts refusal records design levels rows cells read joined are (inr (places, is, rest)) = absurd (never_behind count design levels rows places refusal rest)
 
 late_levels : (count : ℕ) (texts : Texts) (refusal : Refusal) (records : Records) (design : DesignValue) (levels : List Level) → AreRecords texts records → IsJoined records design
     → places_levels count design levels (Err refusal) → Late texts refusal

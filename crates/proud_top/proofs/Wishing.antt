@@ -1,18 +1,17 @@
 -- The points of a design as cells: what the greedy rule may take for granted of them.
-use Rattle.std.proofs.Common.{◌≡◌, ◌≢◌, ◌⊎◌, inl, inr, ℕ, suc, ◌+◌, ◌*◌, ◌/◌, ◌<◌, ◌≤◌, Bool, true, false, cond, List, [], ◌∷◌, ◌++◌, length, get_or, refl, sym, ◌∙◌, ap, subst, arith, zero-add, ℤ, pos, negsuc, ◌+ℤ◌, ◌-ℤ◌, ◌≤ℤ◌, neg_ℤ}
-use Rattle.std.specs.Prelude.{slice_index, max, not, nat_abs, Contains}
+use Rattle.std.proofs.Common.{◌≡◌, ◌≢◌, ◌⊎◌, inl, inr, ℕ, ◌+◌, ◌/◌, ◌<◌, ◌≤◌, false, List, [], ◌∷◌, ◌++◌, length, get_or, refl, sym, ◌∙◌, ap, subst, arith, ℤ, pos, ◌≤ℤ◌}
+use Rattle.std.specs.Prelude.{slice_index, nat_abs, Contains}
 use Rattle.std.specs.Int.{div_ceil}
-use Rattle.std.specs.List.{count_by, sum_by, range_with_len}
+use Rattle.std.specs.List.{count_by, range_with_len}
 use Rattle.std.proofs.Math.Nat.{mul-le-mul_right}
 use Rattle.std.proofs.lemmas.Bool.{cases_eq}
 use Rattle.std.proofs.lemmas.Int.{ints}
 use Rattle.std.proofs.lemmas.List.{get_or_push, get_or_append_left, length_push, get_or-map, get_or_read, length-map}
 use Rattle.std.proofs.lemmas.List.FromFn.{length-range_with_len, get_or-range_with_len}
-use Rattle.std.proofs.lemmas.List.Sums.{count_by-le-length, sum_by-append}
+use Rattle.std.proofs.lemmas.List.Sums.{count_by-le-length}
 use Rattle.std.proofs.lemmas.List.Elements.{All-from_recursion, Contains-append_right}
 use Rattle.std.proofs.lemmas.List.Sorted.{IsPermutation-sym, Contains-permutation}
 use Rattle.book_text.specs.declared.decimal.TheConstants.{MOST_MICRO}
-use Rattle.book_text.specs.Coordinates.{micro_of}
 use Rattle.book_design.specs.Values.{NodeValue, DesignValue, node_value, node_values}
 use Rattle.book_design.specs.Points.{is_movable, node_value_at, IsNodeOf, site_count}
 use Rattle.book_design.specs.WellFormed.{IsDesign, IsGoodNode}
@@ -207,25 +206,3 @@ pub level_read : (levels list : List Level) (count : ℕ) (level : Level) → li
 level_read levels list count level same there is =
     let P : List Level → Type 0 = λ ls. count < length ls in
     get_or_read list count level (subst P (sym same) there) is no_level ∙ ap (λ (ls : List Level). level_at ls count) same
-
--- fixed and movable nodes are all
-abbrev one_if_moves : NodeValue → ℕ
-one_if_moves node = cond (is_movable node) 1 0
-
-abbrev one_if_fixed : NodeValue → ℕ
-one_if_fixed node = cond node.fixed 1 0
-
-kinds_step : (node : NodeValue) (nodes : List NodeValue) (b : Bool) → node.fixed ≡ b → sum_by one_if_moves nodes + sum_by one_if_fixed nodes ≡ length nodes
-    → sum_by one_if_moves (node ∷ nodes) + sum_by one_if_fixed (node ∷ nodes) ≡ suc (length nodes)
-kinds_step node nodes true e ih =
-    let moves : sum_by one_if_moves (node ∷ []) ≡ 0 = rw e refl in
-    let stays : sum_by one_if_fixed (node ∷ []) ≡ 1 = rw e refl in
-    omega (arith, sum_by-append one_if_moves (node ∷ []) nodes, sum_by-append one_if_fixed (node ∷ []) nodes, moves, stays, ih)
-kinds_step node nodes false e ih =
-    let moves : sum_by one_if_moves (node ∷ []) ≡ 1 = rw e refl in
-    let stays : sum_by one_if_fixed (node ∷ []) ≡ 0 = rw e refl in
-    omega (arith, sum_by-append one_if_moves (node ∷ []) nodes, sum_by-append one_if_fixed (node ∷ []) nodes, moves, stays, ih)
-
-pub two_kinds : (nodes : List NodeValue) → count_by is_movable nodes + count_by (λ node. node.fixed) nodes ≡ length nodes
-two_kinds [] = refl
-two_kinds (node ∷ nodes) = kinds_step node nodes node.fixed refl (two_kinds nodes)

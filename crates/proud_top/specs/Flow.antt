@@ -19,7 +19,7 @@ use Rattle.proud_top.specs.declared.status.Refusal.{Refusal}
 use Rattle.proud_top.specs.declared.status.Refusal.TheVariants.{TooLong, Text, Design, Net, Unanchored, NoRoom}
 use Rattle.proud_top.specs.Accepted.{Accepts, IsTooLong, IsBadText}
 use Rattle.level_run.specs.declared.level.Level.{Level}
-use Rattle.level_run.specs.Levels.{level_at}
+use Rattle.level_run.specs.Levels.{IsGap, level_at}
 use Rattle.row_space.specs.Values.{SegmentsValue}
 use Rattle.row_space.specs.Runs.{segments_of}
 use Rattle.row_legal.specs.declared.parts.Place.{Place}
@@ -30,8 +30,10 @@ use Rattle.row_legal.specs.Spots.{spots_of}
 use Rattle.proud_top.specs.Request.{RequestValue}
 use Rattle.proud_top.specs.Solve.{AreSolved}
 use Rattle.proud_top.specs.Wishes.{AreCells}
-use Rattle.proud_top.specs.Placement.{placement_of}
-use Rattle.proud_top.specs.Report.{IsReportOf}
+use Rattle.wire_report.specs.declared.corner.Corner.{Corner}
+use Rattle.wire_report.specs.Wire.{wire_length}
+use Rattle.wire_report.specs.Report.{report_of}
+use Rattle.proud_top.specs.Placement.{corners_of, placement_of}
 
 -- what a design is placed as: the text of its placement, and the report
 pub record PlacedValue : Type 0 where
@@ -94,19 +96,33 @@ abbrev pub legalises : SegmentsValue → CellsValue → Result (List Place) Refu
 legalises rows cells (Ok places) = IsLegalised rows cells places
 legalises rows cells (Err refusal) = (cell : ℕ) × (sites : ℕ) × (largest : ℕ) × (refusal ≡ NoRoom cell sites largest) × HasNoRoom rows cells cell sites largest
 
--- the text of the placement
-abbrev pub writes : DesignValue → SegmentsValue → List Place → Result (List ℕ) Refusal → Type 0
-writes design rows places (Ok text) = text ≡ placement_of design (spots_of rows places)
-writes design rows places (Err refusal) = ⊥
+-- the corners of its nodes, with the cells at these places
+abbrev pub stands : DesignValue → SegmentsValue → List Place → Result (List Corner) Refusal → Type 0
+stands design rows places (Ok corners) = corners ≡ corners_of design (spots_of rows places)
+stands design rows places (Err refusal) = ⊥
 
--- and with it the report
-abbrev pub reports : DesignValue → ℕ → List Level → List ℕ → Result PlacedValue Refusal → Type 0
-reports design count levels file (Ok placed) = (placed.file ≡ file) × IsReportOf design count levels placed.report
-reports design count levels file (Err refusal) = ⊥
+-- the text of the placement
+abbrev pub writes : DesignValue → List Corner → Result (List ℕ) Refusal → Type 0
+writes design corners (Ok text) = text ≡ placement_of design corners
+writes design corners (Err refusal) = ⊥
+
+-- the wire length of the placement
+abbrev pub measures : DesignValue → List Corner → Result ℕ Refusal → Type 0
+measures design corners (Ok wire) = wire ≡ wire_length design corners
+measures design corners (Err refusal) = ⊥
+
+-- and with the text the report: of the design, of the gap of all levels, and of the wire length
+abbrev pub reports : DesignValue → ℕ → List Level → List ℕ → ℕ → Result PlacedValue Refusal → Type 0
+reports design count levels file wire (Ok placed) = (gap : ℕ) × IsGap levels gap × (placed.file ≡ file) × (placed.report ≡ report_of design count gap wire)
+reports design count levels file wire (Err refusal) = ⊥
+
+-- the steps from the places on
+abbrev pub places_corners : ℕ → DesignValue → List Level → SegmentsValue → List Place → Result PlacedValue Refusal → Type 0
+places_corners count design levels rows places = stands design rows places then λ corners. writes design corners then λ file. measures design corners then λ wire. reports design count levels file wire
 
 -- the steps from the levels on
 abbrev pub places_levels : ℕ → DesignValue → List Level → Result PlacedValue Refusal → Type 0
-places_levels count design levels = spaces design then λ rows. wishes design count levels then λ cells. legalises rows cells then λ places. writes design rows places then λ file. reports design count levels file
+places_levels count design levels = spaces design then λ rows. wishes design count levels then λ cells. legalises rows cells then λ places. places_corners count design levels rows places
 
 -- the steps from the records on
 abbrev pub places_records : ℕ → Records → Result PlacedValue Refusal → Type 0

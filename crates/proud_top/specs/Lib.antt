@@ -4,7 +4,6 @@ pub mod Accepted
 pub mod Solve
 pub mod Wishes
 pub mod Placement
-pub mod Report
 pub mod Flow
 pub mod Named
 pub mod Lines

@@ -33,6 +33,11 @@ impl<'a, R: Threads + Sync, G: Gate> Crew<'a, R, G> {
         Crew { rt, gate, seats }
     }
 
+    /// What starts its threads.
+    pub(crate) fn rt(&self) -> &R {
+        self.rt
+    }
+
     /// The levels of a network, so many after the first.
     pub(crate) fn solve(
         &self,

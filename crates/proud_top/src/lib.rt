@@ -4,9 +4,9 @@
 //! them, deliver the placement into the output file and then the report; a step that stops puts its line instead. What is a
 //! function of values is `place`: join the texts to a design, make its network, find that each point reaches a pad, cut the core
 //! and solve each level on each axis from below and from above by a crew of seats, find the free segments of the rows, give each
-//! cell a place there by the greedy rule, write the placement and the report. What comes in are words, a folder, a sink for the
-//! report and a gate; what goes out is a status. The one contract is that of `proud`, over the same list of steps as a definition
-//! (`specs/Flow.antt`).
+//! cell a place there by the greedy rule, take the corners of all nodes, write the placement, measure its wires, and make the
+//! report. What comes in are words, a folder, a sink for the report and a gate; what goes out is a status. The one contract is
+//! that of `proud`, over the same list of steps as a definition (`specs/Flow.antt`).
 //!
 //! The placer is modelled on PROUD (R.-S. Tsay, E. S. Kuh, C.-P. Hsu, IEEE Design & Test of Computers, 1988). It departs
 //! from it in that the equations are solved in whole numbers, from both sides, without over-relaxation, and cells are put on rows
@@ -14,6 +14,7 @@
 #![tactic(auto)]
 
 mod cells;
+mod corners;
 mod crew;
 mod deliver;
 mod exit;
@@ -23,7 +24,6 @@ mod laws;
 mod place;
 mod placement;
 mod refusal;
-mod report;
 mod request;
 mod status;
 mod stop;

@@ -4,19 +4,20 @@ ghost use Rattle.std.specs.Prelude.{◌≤◌};
 ghost use Rattle.proud_top.specs.Forms.Stops.{Places};
 
 use crate::cells::point_cells;
+use crate::corners::corners;
 use crate::crew::Crew;
 use crate::inputs::Inputs;
 use crate::placement::placement_text;
-use crate::report::report_text;
 use crate::stop::Stop;
 use book_outer::Gate;
-use level_run::MOST_LEVELS;
+use level_run::{MOST_LEVELS, gap};
 use net_model::network;
 use pad_reach::reach;
 use row_legal::legalise;
 use row_space::segments;
 use std::alloc::Global;
 use std::thread::Threads;
+use wire_report::{hpwl, report_text};
 
 /// What a placed design puts.
 #[derive(Drop)]
@@ -44,7 +45,9 @@ pub(crate) fn place<R: Threads + Sync, G: Gate>(
     let segments = segments(alloc, &design)?;
     let cells = point_cells(alloc, &design, &levels, count)?;
     let sites = legalise(alloc, &segments, &cells.sites, &cells.wishes)?;
-    let file = placement_text(alloc, &design, &segments, &sites)?;
-    let report = report_text(alloc, &design, &levels, count)?;
+    let corners = corners(alloc, &design, &segments, &sites)?;
+    let file = placement_text(alloc, &design, &corners)?;
+    let wire = hpwl(crew.rt(), alloc, &design, &corners)?;
+    let report = report_text(alloc, &design, count, gap(&levels), wire)?;
     Ok(Placed { file, report })
 }

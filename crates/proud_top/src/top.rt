@@ -26,8 +26,8 @@ use std::thread::Threads;
 /// The words are the program's name, `--levels N` and `--seats N` where a number of levels or of seats is asked for, and the
 /// name of the design's aux file; 4 levels and 4 seats are usual. The output file has the design's name without a final `.aux`,
 /// followed by `.proud.pl`, and may be one of those that were read. It is made only when all is read and placed, and gets a line
-/// `NAME X Y : ORIENT` for each node. The report then gets `cells M terminals T nets N pins P` and `levels L gap G`, or, where
-/// the words, a file or the design is at fault, one line that says so. Both don't depend on the number of seats. The gate is
+/// `NAME X Y : ORIENT` for each node. The report then gets `cells M terminals T nets N pins P`, `levels L gap G` and `wire D`, or,
+/// where the words, a file or the design is at fault, one line that says so. Both don't depend on the number of seats. The gate is
 /// called in the first sweep of each crew.
 pub fn proud<R: Threads + Sync, F: Folder, S: Sink, G: Gate>(
     rt: &R,

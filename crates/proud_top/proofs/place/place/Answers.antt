@@ -1,4 +1,5 @@
-use Rattle.std.proofs.Common.{◌≡◌, ◌<◌, ℕ, List, length, Ok, Err, refl, sym, subst, inl, inr}
+use Rattle.std.proofs.Common.{◌≡◌, ◌<◌, ℕ, List, length, Ok, Err, refl, sym, ◌∙◌, ap, subst, inl, inr}
+use Rattle.std.specs.Prelude.{All}
 use Rattle.std.proofs.lemmas.List.{length-map}
 use Rattle.std.proofs.lemmas.Result.{err_from_is_err_and}
 use Rattle.book_design.specs.Values.{DesignValue}
@@ -13,7 +14,7 @@ use Rattle.net_model.specs.declared.fault.NetError.{NetError}
 use Rattle.net_model.specs.declared.fault.NetError.TheVariants as net_error
 use Rattle.net_model.specs.Webs.{joints_of}
 use Rattle.level_run.specs.declared.level.Level.{Level}
-use Rattle.level_run.specs.Levels.{level_at}
+use Rattle.level_run.specs.Levels.{IsGap, level_at}
 use Rattle.row_space.specs.Values.{SegmentsValue}
 use Rattle.row_space.specs.Runs.{segments_of}
 use Rattle.row_legal.specs.declared.parts.Place.{Place}
@@ -29,12 +30,15 @@ use Rattle.row_legal.specs.Spots.{spots_of, AreSitesOf}
 use Rattle.proud_top.specs.declared.place.Placed.{Placed}
 use Rattle.proud_top.specs.Solve.{AreSolved}
 use Rattle.proud_top.specs.Wishes.{AreWishes, AreCells}
-use Rattle.proud_top.specs.Placement.{placement_of}
-use Rattle.proud_top.specs.Report.{IsReportOf}
+use Rattle.wire_report.specs.declared.corner.Corner.{Corner}
+use Rattle.wire_report.specs.Wire.{IsNearCorner, wire_length}
+use Rattle.wire_report.specs.Report.{report_of}
+use Rattle.proud_top.specs.Placement.{corners_of, placement_of}
 use Rattle.proud_top.specs.declared.stop.Stop.{Stop}
 use Rattle.proud_top.specs.declared.stop.Stop.TheVariants.{ReadFault, Refused, Memory}
 use Rattle.proud_top.specs.Forms.Inputs.{Texts}
 use Rattle.proud_top.specs.Forms.Stops.{stop_of_net, stop_of_reach, stop_of_legal, Designs, Places}
+use Rattle.proud_top.proofs.Placing.{corner_each}
 use Rattle.proud_top.proofs.Points.{over_cells}
 use Rattle.proud_top.proofs.place.place.Goals as goal
 
@@ -59,8 +63,8 @@ good_as sites given_sites wishes given_wishes e f good =
 pub legalise-requires-clause-cells : goal.legalise-requires-clause-cells
 legalise-requires-clause-cells g c = good_as _ c.deref.result.now _ c.deref-2.result.now c.deref.ensures.value c.deref-2.ensures.value c.in_ok-cells.ensures.good
 
-pub placement_text-requires-clause-placed : goal.placement_text-requires-clause-placed
-placement_text-requires-clause-placed g c = record {
+pub corners-requires-clause-placed : goal.corners-requires-clause-placed
+corners-requires-clause-placed g c = record {
   cells = cells_of c.deref.result.now c.deref-2.result.now;
   spaced = c.in_ok-segments.ensures.segments;
   sites = (cells_as c.in_ok-design.design _ _ c.deref.result.now _ c.deref-2.result.now c.deref.ensures.value c.deref-2.ensures.value c.in_ok-cells.ensures.sites c.in_ok-cells.ensures.wishes).sites;
@@ -145,9 +149,21 @@ returns-in_err-cells g c =
     let q : p.0 ≡ Memory = p.2 in
     rw (p.1, q) tt
 
+pub returns-in_err-corners : goal.returns-in_err-corners
+returns-in_err-corners g c =
+    let p = err_from_is_err_and c.from_residual-in_err-corners.result c.from_residual-in_err-corners.ensures.1 in
+    let q : p.0 ≡ Memory = p.2 in
+    rw (p.1, q) tt
+
 pub returns-in_err-file : goal.returns-in_err-file
 returns-in_err-file g c =
     let p = err_from_is_err_and c.from_residual-in_err-file.result c.from_residual-in_err-file.ensures.1 in
+    let q : p.0 ≡ Memory = p.2 in
+    rw (p.1, q) tt
+
+pub returns-in_err-wire : goal.returns-in_err-wire
+returns-in_err-wire g c =
+    let p = err_from_is_err_and c.from_residual-in_err-wire.result c.from_residual-in_err-wire.ensures.1 in
     let q : p.0 ≡ Memory = p.2 in
     rw (p.1, q) tt
 
@@ -157,20 +173,38 @@ returns-in_err-report g c =
     let q : p.0 ≡ Memory = p.2 in
     rw (p.1, q) tt
 
+-- the corners as they are passed
+each_as : (design : DesignValue) (rows : SegmentsValue) (places : List Place) (corners given : List Corner) → given ≡ corners → corners ≡ corners_of design (spots_of rows places) → length given ≡ length design.nodes
+each_as design rows places corners given e is = ap length (e ∙ is) ∙ corner_each design (spots_of rows places)
+
+pub placement_text-requires : goal.placement_text-requires
+placement_text-requires g c = each_as c.in_ok-design.design c.in_ok-segments.segments c.in_ok-sites.sites _ _ c.deref-3.ensures.value c.in_ok-corners.ensures.corners
+
+pub hpwl-requires-clause-each : goal.hpwl-requires-clause-each
+hpwl-requires-clause-each g c = λ κs lives. each_as c.in_ok-design.design c.in_ok-segments.segments c.in_ok-sites.sites _ c.deref-4.result.now c.deref-4.ensures.value c.in_ok-corners.ensures.corners
+
+pub hpwl-requires-clause-near : goal.hpwl-requires-clause-near
+hpwl-requires-clause-near g c = λ κs lives.
+    let P : List Corner → Type 0 = λ list. All IsNearCorner list in
+    subst P (sym c.deref-4.ensures.value) c.in_ok-corners.ensures.near
+
 -- what is placed
-placed_whole : (count : ℕ) (texts : Texts) (design : DesignValue) (network : NetworkValue) (levels : List Level) (rows : SegmentsValue) (cells : CellsValue) (places : List Place) (placed : Placed) → Designs texts (Ok design)
-    → IsNetwork design network → ((p : ℕ) → p < length network.points → HasChain (joints_of network) p) → AreSolved network count levels → rows ≡ segments_of design → AreCells design (level_at levels count) cells
-    → IsLegalised rows cells places → placed.file.items ≡ placement_of design (spots_of rows places) → IsLegal design (spots_of rows places) → IsReportOf design count levels placed.report.items
-    → Places count texts (Ok placed)
-placed_whole count texts design network levels rows cells places placed h made chains solved spaced are legalised file legal report = (
-  (h.0, h.1, (design, h.2, (network, made, (tt, chains, (levels, solved, (rows, spaced, (cells, are, (places, legalised, (placed.file.items, file, (refl, report)))))))))),
-  record { records = h.0; design = design; spots = spots_of rows places; read = h.1; joined = h.2; legal = legal; is_text = file },
-)
+placed_whole : (count : ℕ) (texts : Texts) (design : DesignValue) (network : NetworkValue) (levels : List Level) (rows : SegmentsValue) (cells : CellsValue) (places : List Place) (corners for_text for_wire : List Corner) (wire gap : ℕ) (placed : Placed)
+    → Designs texts (Ok design) → IsNetwork design network → ((p : ℕ) → p < length network.points → HasChain (joints_of network) p) → AreSolved network count levels → rows ≡ segments_of design → AreCells design (level_at levels count) cells
+    → IsLegalised rows cells places → IsLegal design (spots_of rows places) → corners ≡ corners_of design (spots_of rows places) → for_text ≡ corners → placed.file.items ≡ placement_of design for_text → for_wire ≡ corners
+    → wire ≡ wire_length design for_wire → IsGap levels gap → placed.report.items ≡ report_of design count gap wire → Places count texts (Ok placed)
+placed_whole count texts design network levels rows cells places corners for_text for_wire wire gap placed h made chains solved spaced are legalised legal stand e file f long is_gap report =
+    let text = file ∙ ap (placement_of design) e in
+    let length_is = long ∙ ap (wire_length design) f in (
+      (h.0, h.1, (design, h.2, (network, made, (tt, chains, (levels, solved, (rows, spaced, (cells, are, (places, legalised, (corners, stand, (placed.file.items, text, (wire, length_is, (gap, is_gap, refl, report)))))))))))),
+      record { records = h.0; design = design; spots = spots_of rows places; read = h.1; joined = h.2; legal = legal; is_text = text ∙ ap (placement_of design) stand },
+    )
 
 pub returns : goal.returns
 returns g c =
     let cells = cells_of c.deref.result.now c.deref-2.result.now in
     let are = cells_as c.in_ok-design.design _ _ c.deref.result.now _ c.deref-2.result.now c.deref.ensures.value c.deref-2.ensures.value c.in_ok-cells.ensures.sites c.in_ok-cells.ensures.wishes in
-    placed_whole c.args.count _ c.in_ok-design.design c.in_ok-network.network c.in_ok-levels.levels c.in_ok-segments.segments cells c.in_ok-sites.sites (record { file = c.in_ok-file.file; report = c.in_ok-report.report })
-    c.in_ok-design.ensures c.in_ok-network.ensures (chained c.in_ok-network.network c.in_ok-reach.ensures.chains) c.in_ok-levels.ensures.solved c.in_ok-segments.ensures.segments are c.in_ok-sites.ensures.answer
-    c.in_ok-file.ensures.text c.placement_text.ensures.legal c.in_ok-report.ensures
+    placed_whole c.args.count _ c.in_ok-design.design c.in_ok-network.network c.in_ok-levels.levels c.in_ok-segments.segments cells c.in_ok-sites.sites c.in_ok-corners.corners.items c.deref-3.result.now c.deref-4.result.now
+    c.in_ok-wire.wire c.gap.result (record { file = c.in_ok-file.file; report = c.in_ok-report.report }) c.in_ok-design.ensures c.in_ok-network.ensures (chained c.in_ok-network.network c.in_ok-reach.ensures.chains)
+    c.in_ok-levels.ensures.solved c.in_ok-segments.ensures.segments are c.in_ok-sites.ensures.answer c.corners.ensures.legal c.in_ok-corners.ensures.corners c.deref-3.ensures.value c.in_ok-file.ensures
+    c.deref-4.ensures.value c.in_ok-wire.ensures.wire c.gap.ensures c.in_ok-report.ensures.text

@@ -1,9 +1,9 @@
 use Rattle.std.proofs.Common.{◌≡◌, map}
 use Rattle.std.specs.List.{range_with_len}
 use Rattle.book_files.specs.Entries.{place_entries}
-use Rattle.row_legal.specs.Spots.{spots_of}
+use Rattle.book_design.specs.Values.{node_values}
 use Rattle.proud_top.specs.Placement.{place_of}
 use Rattle.proud_top.proofs.placement.lines.Given as goal
 
 abbrev pub invariant-loop-i : goal.invariant-loop-i
-invariant-loop-i l = place_entries l.lines.items ≡ map (place_of l.design.nodes (spots_of l.segments l.places)) (range_with_len 0 l.i)
+invariant-loop-i l = place_entries l.lines.items ≡ map (place_of (node_values l.nodes) l.corners) (range_with_len 0 l.i)
