@@ -1,7 +1,7 @@
 -- From a parse by the command to what its words ask for.
-use Rattle.std.proofs.Common.{◌≡◌, ◌∙◌, sym, ap, subst, refl, true, List, [], Ok, Err, IfOk, IfErr, IsErrAnd}
-use Rattle.std.specs.Prelude.{ℕ, Result}
-use Rattle.clap.specs.Words.{App, HasMatchesOf, Text, found_of, is_simple, kind_of, matches_of, rows_of, takes}
+use Rattle.std.proofs.Common.{◌≡◌, ◌∙◌, sym, ap, subst, true, List, [], Ok, Err, IfOk, IfErr, IsErrAnd}
+use Rattle.std.specs.Prelude.{Result}
+use Rattle.clap.specs.Words.{App, HasMatchesOf, Text, found_of, kind_of, matches_of, rows_of, takes}
 use Rattle.clap.specs.Faults.{fault_of, is_simple_and_free}
 use Rattle.clap.specs.declared.error.Error.{Error}
 use Rattle.clap.specs.declared.error.kind.ErrorKind.TheVariants.{OutOfMemory}

@@ -1,5 +1,5 @@
 -- Words ask for one request at most, whose numbers lie in their ranges.
-use Rattle.std.proofs.Common.{◌≡◌, ◌∙◌, ◌≤◌, sym, ap, ap₂, refl, arith, List, Option, Some, None}
+use Rattle.std.proofs.Common.{◌≡◌, ◌∙◌, ◌≤◌, sym, ap, arith, List, Option, Some, None}
 use Rattle.std.specs.Prelude.{ℕ, IfSome, codes, unwrap_or, option_map}
 use Rattle.clap.specs.Words.{IsUnsignedIn, Row, first_of, matches_of}
 use Rattle.grid_design.specs.declared.asked.Grid.{Grid}
@@ -9,7 +9,6 @@ use Rattle.relax_crew.specs.declared.range.TheConstants.{MOST_SEATS}
 use Rattle.level_run.specs.declared.hierarchy.TheConstants.{MOST_LEVELS}
 use Rattle.proud_words.specs.declared.request.TheConstants.{USUAL_LEVELS, USUAL_SEATS}
 use Rattle.proud_words.specs.Command.{proud_command}
-use Rattle.proud_words.specs.Forms.Texts.{HasNumbers}
 use Rattle.proud_words.specs.Request.{IsReading, IsRequest, IsSource, RequestValue, SourceValue, number_of, of_design, of_grid, usual_out}
 use Rattle.proud_words.proofs.Taken.{taken_numbers}
 

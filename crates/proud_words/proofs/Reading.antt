@@ -1,5 +1,5 @@
 -- From the texts that the matches give to what they ask for.
-use Rattle.std.proofs.Common.{◌≡◌, ◌∙◌, sym, subst, refl, List, Option, Some, None, Ok, Err, IfErr, IsErrAnd}
+use Rattle.std.proofs.Common.{◌≡◌, ◌∙◌, sym, subst, List, Option, Some, None, Ok, Err, IfErr, IsErrAnd}
 use Rattle.std.specs.Prelude.{ℕ, Result, IfSome, codes}
 use Rattle.std.specs.Borrow.{Bor}
 use Rattle.clap.specs.Words.{Row, first_of, first_value, rows_of}

@@ -1,20 +1,19 @@
 -- What the command of the program takes.
-use Rattle.std.proofs.Common.{◌≡◌, ◌&&◌, Bool, true, false, refl, List, [], Option, Some, None, is_some, codes}
+use Rattle.std.proofs.Common.{◌≡◌, true, false, refl, List, [], Option, Some, None, is_some, codes}
 use Rattle.std.specs.Prelude.{ℕ, IfSome}
-use Rattle.std.specs.Option.{option_map_or}
 use Rattle.clap.proofs.ValueTestLemmas.{accepts-Accepts}
 use Rattle.clap.proofs.WalkLemmas.{both}
-use Rattle.clap.specs.Words.{IsUnsignedIn, Row, Rule, Text, first_of, is_simple, matches_of, takes}
+use Rattle.clap.specs.Words.{IsUnsignedIn, Rule, Text, first_of, is_simple, matches_of, takes}
 use Rattle.clap.specs.Faults.{fault_of, is_simple_and_free}
 use Rattle.clap.specs.Simple.{App, argument_words, built, entered, names_of}
-use Rattle.clap.specs.Takes.{default_passes, entered_passes, level_passes, value_passes}
+use Rattle.clap.specs.Takes.{entered_passes, value_passes}
 use Rattle.clap.specs.Walk.{nothing_held, walk}
 use Rattle.clap.specs.declared.builder.value_parser.ValueParser.TheVariants.{Unsigned}
 use Rattle.relax_crew.specs.declared.range.TheConstants.{MOST_SEATS}
 use Rattle.level_run.specs.declared.hierarchy.TheConstants.{MOST_LEVELS}
 use Rattle.proud_words.specs.Command.{levels_rule, proud_command, seats_rule}
 use Rattle.proud_words.specs.Forms.Texts.{HasNumbers}
-use Rattle.proud_words.proofs.Passing.{Each, Setting, level_text}
+use Rattle.proud_words.proofs.Passing.{Setting, level_text}
 use Rattle.proud_words.proofs.Taking.{and_true, level_take}
 use Rattle.clap.specs.Simple.{filled, with_index}
 

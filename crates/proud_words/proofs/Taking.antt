@@ -1,5 +1,5 @@
 -- Words at which a simple command has no fault are words that it takes.
-use Rattle.std.proofs.Common.{◌≡◌, ◌⊎◌, ◌≤◌, ◌&&◌, ◌||◌, ◌==◌, not, inl, inr, ℕ, Bool, cond, true, false, zero, suc, refl, ap, arith, List, [], ◌∷◌, length, drop, min, is_some, nat_lt, nat_le, Option, Some, None, codes}
+use Rattle.std.proofs.Common.{◌≡◌, ◌≤◌, ◌&&◌, ◌||◌, ◌==◌, not, ℕ, Bool, cond, true, false, zero, suc, refl, arith, List, [], ◌∷◌, length, drop, is_some, nat_lt, nat_le, Option, Some, None, codes}
 use Rattle.std.specs.Prelude.{encode_utf8, slice_get}
 use Rattle.std.specs.List.{list_all, list_any}
 use Rattle.std.specs.Option.{option_map_or}
@@ -10,8 +10,7 @@ use Rattle.clap.specs.Lexer.{long_of, short_of}
 use Rattle.clap.specs.Values.{refused_kind}
 use Rattle.clap.specs.ValueTests.{accepts}
 use Rattle.clap.specs.Facts.{parser_of_value, unwrap_or_range}
-use Rattle.clap.specs.Matches.{count_text}
-use Rattle.clap.specs.Kinds.{Kinds, check_kinds, or_else, range_kinds, request_kinds, values_kinds}
+use Rattle.clap.specs.Kinds.{Kinds, check_kinds, or_else, range_kinds, values_kinds}
 use Rattle.clap.specs.Faults.{action_fault, bundle_step_fault, check_fault, count_fault, flag_word_fault, flags_fault, level_fault, long_fault, option_fault, other_fault, positional_fault, react_fault, set_fault, settle_fault, short_fault, step_fault, stray_fault, turn_fault, use_fault, values_fault, walk_fault, word_fault}
 use Rattle.clap.specs.Takes.{action_passes, bundle_step_passes, count_passes, default_passes, flag_word_passes, flags_pass, is_given, is_valid, level_passes, long_passes, option_passes, other_passes, positional_passes, react_passes, set_passes, settle_passes, short_passes, step_passes, turn_passes, use_passes, values_pass, walk_passes, word_passes}
 use Rattle.clap.specs.Walk.{Held, Names, Row, Rule, Step, Text, Waiting, Walk, next, trailing, subcommand, value, action_of, arg_by_id, arg_by_index, arg_by_long, arg_by_short, attached_value, finished, has_row, is_pending, most_values, reacted, settled, subcommand_met, takes_several, takes_values, values_or_missing, walk, walk_from, walked, word_met}
@@ -207,8 +206,8 @@ turn_take : (s : Shape) (names : Names) (w : Walk) (word : Text) → turn_fault 
 turn_take s names w word e =
     let met = word_met s.rules names w.is_trailing w.waiting w.position word w.held in
     past_test (is_some w.stopped) _ _ (λ none.
-        let parts = neither _ _ none in
-        and_true _ _ (word_take s names w.is_trailing w.waiting word w.held parts.0) (step_take s w.position met.0 met.1 parts.1)) e
+    let parts = neither _ _ none in
+    and_true _ _ (word_take s names w.is_trailing w.waiting word w.held parts.0) (step_take s w.position met.0 met.1 parts.1)) e
 
 walk_take : (s : Shape) (names : Names) (w : Walk) (words : List Text) → walk_fault s names w words ≡ [] → walk_passes s names w words ≡ true
 unfolding walk_fault walk_passes

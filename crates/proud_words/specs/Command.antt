@@ -1,6 +1,6 @@
 -- The command that the program is, as a simple one of `clap`.
-use Rattle.std.specs.Prelude.{List, ℕ, Option, Some, codes}
-use Rattle.clap.specs.Words.{App, Row, Rule, Text, first_of, matches_of, new_app, new_rule, with_rule}
+use Rattle.std.specs.Prelude.{Some, codes}
+use Rattle.clap.specs.Words.{App, Rule, new_app, new_rule, with_rule}
 use Rattle.clap.specs.declared.builder.value_parser.ValueParser.TheVariants.{Unsigned}
 use Rattle.relax_crew.specs.declared.range.TheConstants.{MOST_SEATS}
 use Rattle.level_run.specs.declared.hierarchy.TheConstants.{MOST_LEVELS}

@@ -1,5 +1,5 @@
 -- What the words of a command line ask for.
-use Rattle.std.specs.Prelude.{◌≡◌, true, ℕ, ◌-◌, List, ◌++◌, length, take, drop, codes, bytes_eq, if◌then◌else◌, Option, Some, None, unwrap_or, option_map, string_bytes}
+use Rattle.std.specs.Prelude.{◌≡◌, true, ℕ, ◌-◌, List, ◌++◌, length, take, drop, codes, bytes_eq, if◌then◌else◌, Option, Some, None, unwrap_or, option_map}
 use Rattle.std.specs.Str.Parse.{digits_value, without_leading_plus}
 use Rattle.clap.specs.Words.{Row, first_of, matches_of, takes}
 use Rattle.grid_design.specs.declared.asked.Grid.{Grid}

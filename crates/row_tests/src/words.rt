@@ -27,8 +27,24 @@ const DESIGNS: [(&str, u32, usize, &str, &str); 15] = [
 /// Words that ask for a grid, and what is expected: levels, seats, the output file, and rows, columns and number.
 const GRIDS: [(&str, u32, usize, &str, u32, u32, u64); 3] = [
     ("--grid 2,3,1", 4, 4, "grid.proud.pl", 2, 3, 1),
-    ("--grid=64,1,18446744073709551615 --levels 12", 12, 4, "grid.proud.pl", 64, 1, 18446744073709551615),
-    ("--seats 7 --grid 12,12,5 --out a.pl", 4, 7, "a.pl", 12, 12, 5),
+    (
+        "--grid=64,1,18446744073709551615 --levels 12",
+        12,
+        4,
+        "grid.proud.pl",
+        64,
+        1,
+        18446744073709551615,
+    ),
+    (
+        "--seats 7 --grid 12,12,5 --out a.pl",
+        4,
+        7,
+        "a.pl",
+        12,
+        12,
+        5,
+    ),
 ];
 
 /// Words that ask for nothing.

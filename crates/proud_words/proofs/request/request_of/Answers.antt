@@ -1,4 +1,4 @@
-use Rattle.std.proofs.Common.{◌∙◌, sym, ap, subst, List, Option}
+use Rattle.std.proofs.Common.{◌∙◌, ap, subst, List, Option}
 use Rattle.std.specs.Prelude.{ℕ, codes, option_map, unwrap_or}
 use Rattle.clap.specs.Words.{IsUnsignedIn, first_of, found_of, rows_of}
 use Rattle.level_run.specs.declared.hierarchy.TheConstants.{MOST_LEVELS}
