@@ -1,0 +1,25 @@
+UCLA pl 1.0
+
+adr0	0	0	: N
+adr1	0	0	: N
+adr2	0	0	: N
+dec	0	0	: N
+inv	0	0	: N
+wen	0	0	: N
+mux0	0	0	: N
+mux1	0	0	: N
+out0	0	0	: N
+out1	0	0	: N
+out2	0	0	: N
+out3	0	0	: N
+buf	58	66	: FS /FIXED
+ram	34	30	: N /FIXED
+pad_a0	14.500000	25.000000	: N /FIXED
+pad_a1	14.500000	45.000000	: N /FIXED
+pad_a2	14.500000	65.000000	: N /FIXED
+pad_we	41.750000	14.500000	: N /FIXED
+pad_by	63.250000	80.500000	: N /FIXED
+pad_q0	68.500000	28.000000	: N /FIXED
+pad_q1	68.500000	40.000000	: N /FIXED
+pad_q2	68.500000	52.000000	: N /FIXED
+pad_q3	68.500000	64.000000	: N /FIXED
