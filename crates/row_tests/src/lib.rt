@@ -1,6 +1,6 @@
 //! Tests of the rows, on designs that are joined from their texts.
 //!
-//! It stands above `row_space` and `row_legal`, so that who works on these needn't prove the tests each time. It has no
+//! It stands above `row_space`, `row_legal` and `wire_report`, so that who works on these needn't prove the tests each time. It has no
 //! code of its own, and no contract.
 #![tactic(auto)]
 
@@ -8,3 +8,5 @@
 mod legal;
 #[cfg(test)]
 mod segments;
+#[cfg(test)]
+mod wire;

@@ -1,0 +1,4 @@
+mod Terminals
+mod Extents
+mod Spots
+mod Decimals

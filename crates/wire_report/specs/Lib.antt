@@ -1,0 +1,4 @@
+pub mod Wire
+pub mod Rectangles
+pub mod Report
+pub mod Forms
