@@ -43,6 +43,21 @@ impl Made for Points {
     }
 }
 
+/// The wire length of so many nets.
+#[derive(Clone, Copy)]
+pub struct Wire {
+    pub nets: usize,
+    pub length: u128,
+}
+
+impl Made for Wire {
+    fn told(&self) -> Told {
+        let mut told = Told::new(self.nets);
+        told.add((self.length % (1 << 64)) as u64);
+        told
+    }
+}
+
 impl Made for Vec<u8> {
     fn told(&self) -> Told {
         let mut told = Told::new(self.len());

@@ -27,6 +27,7 @@ use net_model::network;
 use pad_reach::reach;
 use std::env;
 use std::process::ExitCode;
+use std::thread::Threads;
 
 /// What a run with other words ends with.
 const USAGE: &str = "usage: step_bench DESIGN [CUTS [TIMES]]";
@@ -43,7 +44,7 @@ struct Asked {
 }
 
 fn main(rt: HostRuntime) -> ExitCode {
-    match run(&rt) {
+    match run(&rt, &rt) {
         Ok(()) => ExitCode::SUCCESS,
         Err(why) => {
             let _told = eprintln!(rt; "step_bench: {why}");
@@ -52,7 +53,8 @@ fn main(rt: HostRuntime) -> ExitCode {
     }
 }
 
-fn run(rt: &HostRuntime) -> Answer<()> {
+/// Times the steps. What may start threads stands apart, since only `main` can say that its runtime may.
+fn run<R: Threads + Sync>(threads: &R, rt: &HostRuntime) -> Answer<()> {
     let asked = words_of(rt)?;
     let alloc = rt.alloc();
     let mut watch = Watch::new(rt)?;
@@ -66,7 +68,7 @@ fn run(rt: &HostRuntime) -> Answer<()> {
     let areas = areas(alloc, &network)?;
     let cells = cells_as_placed(alloc, &design).map_err(|_| "memory is wanting")?;
     measure_levels(alloc, &mut watch, &network, &areas, &cells, asked.cuts)?;
-    measure_rows(alloc, &mut watch, &design, &areas, &cells, asked.times)
+    measure_rows(threads, alloc, &mut watch, &design, &areas, &cells, asked.times)
 }
 
 /// What the words behind the program's name ask for.

@@ -11,6 +11,7 @@ use relax_system::System;
 use relax_table::FloorSeat;
 use row_legal::Sites;
 use row_space::Segments;
+use wire_report::Corner;
 
 impl Made for Texts {
     fn told(&self) -> Told {
@@ -183,6 +184,17 @@ impl Made for Sites {
         for place in self.as_slice() {
             told.add(place.segment as u64);
             told.add(u64::from(place.site));
+        }
+        told
+    }
+}
+
+impl Made for Vec<Corner> {
+    fn told(&self) -> Told {
+        let mut told = Told::new(self.len());
+        for corner in self {
+            told.add_size(corner.x);
+            told.add_size(corner.y);
         }
         told
     }
