@@ -2,3 +2,6 @@ mod Terminals
 mod Extents
 mod Spots
 mod Decimals
+mod Reporting
+mod Adding
+mod Smallest

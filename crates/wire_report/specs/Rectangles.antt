@@ -1,5 +1,5 @@
 -- Rectangles around pins.
-use Rattle.std.specs.Prelude.{List, map, ℤ, ◌≤ℤ◌, ◌+ℤ◌, ◌-ℤ◌, All}
+use Rattle.std.specs.Prelude.{List, map, ℤ, ◌≤ℤ◌, ◌-ℤ◌, All}
 use Rattle.book_design.specs.declared.parts.Pin.{Pin}
 use Rattle.book_design.specs.Values.{DesignValue}
 use Rattle.wire_report.specs.declared.corner.Corner.{Corner}

@@ -1,11 +1,11 @@
 //! The report of a placed design.
 
-ghost use Rattle.std.specs.Prelude.{◌≡◌, ◌++◌, ◌<◌, ◌≤◌, length, decimal, IfOk, OnOk};
+ghost use Rattle.std.specs.Prelude.{◌≡◌, ◌++◌, ◌<◌, ◌≤◌, length, drop, decimal, IfOk, OnOk};
 ghost use Rattle.std.specs.List.{count_by, sum_by};
 ghost use Rattle.book_text.specs.Decimal.{fraction_text};
 ghost use Rattle.book_design.specs.Nets.{net_values};
 ghost use Rattle.book_design.specs.declared.rules.TheConstants.{MOST_PINS};
-ghost use Rattle.wire_report.specs.Report.{report_of};
+ghost use Rattle.wire_report.specs.Report.{counts_line, levels_line, wire_line, report_of};
 
 use book_design::{Design, Net};
 use book_text::{Memory, put_micro};
@@ -24,16 +24,39 @@ pub fn report_text(
     ensures text { IfOk result (λ text. text.items ≡ report_of design.now levels gap wire) }
 {
     let mut text = Vec::new(alloc);
-    put_count(&mut text, "cells ", design.points() as u128)?;
-    put_count(&mut text, " terminals ", terminal_count(design) as u128)?;
-    put_count(&mut text, " nets ", design.nets().len() as u128)?;
-    put_count(&mut text, " pins ", u128::from(pin_count(design.nets())))?;
-    put_count(&mut text, "\nlevels ", u128::from(levels))?;
-    put_count(&mut text, " gap ", u128::from(gap))?;
-    put_count(&mut text, "\nwire ", wire / 1_000_000)?;
-    put_fraction(alloc, &mut text, (wire % 1_000_000) as u32)?;
-    text.push(b'\n')?;
+    put_counts(&mut text, design)?;
+    put_levels(&mut text, levels, gap)?;
+    put_wire(alloc, &mut text, wire)?;
     Ok(text)
+}
+
+/// Appends the line of how many cells, terminals, nets and pins the design has.
+fn put_counts(text: &mut Vec<u8>, design: &Design<'_>) -> Result<(), Memory>
+    ensures { OnOk result (text.new.items ≡ text.old.items ++ counts_line design.now) }
+{
+    put_count(text, "cells ", design.points() as u128)?;
+    put_count(text, " terminals ", terminal_count(design) as u128)?;
+    put_count(text, " nets ", design.nets().len() as u128)?;
+    put_count(text, " pins ", u128::from(pin_count(design.nets())))?;
+    Ok(text.push(b'\n')?)
+}
+
+/// Appends the line of how many levels there are after the first, and their gap.
+fn put_levels(text: &mut Vec<u8>, levels: u32, gap: u64) -> Result<(), Memory>
+    ensures { OnOk result (text.new.items ≡ text.old.items ++ levels_line levels gap) }
+{
+    put_count(text, "levels ", u128::from(levels))?;
+    put_count(text, " gap ", u128::from(gap))?;
+    Ok(text.push(b'\n')?)
+}
+
+/// Appends the line of the wire length.
+fn put_wire(alloc: Global, text: &mut Vec<u8>, wire: u128) -> Result<(), Memory>
+    ensures { OnOk result (text.new.items ≡ text.old.items ++ wire_line wire) }
+{
+    put_count(text, "wire ", wire / 1_000_000)?;
+    put_fraction(alloc, text, (wire % 1_000_000) as u32)?;
+    Ok(text.push(b'\n')?)
 }
 
 /// How many fixed nodes there are: those that aren't movable.
@@ -71,5 +94,13 @@ fn put_fraction(alloc: Global, text: &mut Vec<u8>, rest: u32) -> Result<(), Memo
 {
     let mut decimal = Vec::new(alloc);
     put_micro(&mut decimal, i128::from(rest))?;
-    Ok(text.extend_from_slice(&decimal[1..])?)
+    Ok(text.extend_from_slice(behind_first(&decimal))?)
+}
+
+/// What stands behind the first byte.
+fn behind_first(bytes: &[u8]) -> &[u8]
+    requires { 1 ≤ length bytes.now }
+    ensures { result.now ≡ drop 1 bytes.now }
+{
+    &bytes[1..]
 }

@@ -1,4 +1,4 @@
-use Rattle.std.proofs.Common.{◌≡◌, ◌-◌, List, length, take, drop, pos, sym, subst}
+use Rattle.std.proofs.Common.{◌-◌, List, length, take, drop, pos, sym, subst}
 use Rattle.std.specs.List.{AllByRecursion}
 use Rattle.std.proofs.lemmas.List.Elements.{All-from_recursion, All-take, All-drop}
 use Rattle.book_design.specs.declared.parts.Pin.{Pin}

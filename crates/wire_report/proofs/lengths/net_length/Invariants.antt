@@ -1,5 +1,4 @@
 use Rattle.std.proofs.Common.{map, take, get_or, pos}
-use Rattle.book_design.specs.declared.parts.Pin.{Pin}
 use Rattle.wire_report.specs.Wire.{pin_x, pin_y}
 use Rattle.wire_report.proofs.Extents.{IsExtent}
 use Rattle.wire_report.proofs.lengths.net_length.Given as goal
