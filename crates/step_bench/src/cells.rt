@@ -6,7 +6,7 @@ ghost use Rattle.row_legal.specs.declared.rules.TheConstants.{MOST_CELL_SITES};
 ghost use Rattle.row_legal.specs.Cells.{cells_of};
 ghost use Rattle.row_legal.specs.Ranges.{IsNear, AreGoodCells};
 
-use crate::watch::Answer;
+use crate::watch::{Answer, NO_MEMORY};
 use book_design::Design;
 use book_text::MOST_MICRO;
 use net_model::Network;
@@ -64,7 +64,7 @@ pub fn areas(alloc: Global, network: &Network) -> Answer<Vec<u64>>
     for p in 0..network.points() {
         let area = network.area(p as u32);
         if areas.push(area).is_err() {
-            return Err("memory is wanting");
+            return Err(NO_MEMORY);
         }
         let Some(more) = total.checked_add(area) else {
             return Err("the cells are too large");

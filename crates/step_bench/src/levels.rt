@@ -7,7 +7,7 @@ ghost use Rattle.area_cut.specs.Regions.{ArePartition, AreShares, AreWithin};
 ghost use Rattle.level_run.specs.Levels.{HasChains};
 
 use crate::cells::{Cells, coordinate};
-use crate::watch::{Answer, Watch};
+use crate::watch::{Answer, NO_MEMORY, Watch};
 use area_cut::{Axis, Regions, cut, parts_share, whole};
 use book_design::Core;
 use book_text::Memory;
@@ -18,8 +18,6 @@ use relax_table::{FloorTable, Steps, ends_may_start};
 use std::alloc::{AllocError, Global};
 use std::marker::Brand;
 use std::sync::ledger::{Blank, Ledger};
-
-const NO_MEMORY: &str = "memory is wanting";
 
 /// The systems of a level on both axes.
 #[derive(Drop)]
@@ -46,12 +44,20 @@ pub fn measure_levels(
         return Err("a cell has no place");
     }
     watch.begin()?;
-    let regions = cut_often(alloc, network, areas, xs, ys, cuts).map_err(|_| NO_MEMORY)?;
+    let Ok(regions) = cut_often(alloc, network, areas, xs, ys, cuts) else {
+        return Err(NO_MEMORY);
+    };
     watch.end("cuts", &regions)?;
-    let parts = cut(alloc, &regions, areas, xs, ys).map_err(|_| NO_MEMORY)?;
+    let Ok(parts) = cut(alloc, &regions, areas, xs, ys) else {
+        return Err(NO_MEMORY);
+    };
     watch.end("cut", &parts)?;
-    let x = project(alloc, network, Axis::X, &regions, xs).map_err(|_| NO_MEMORY)?;
-    let y = project(alloc, network, Axis::Y, &regions, ys).map_err(|_| NO_MEMORY)?;
+    let Ok(x) = project(alloc, network, Axis::X, &regions, xs) else {
+        return Err(NO_MEMORY);
+    };
+    let Ok(y) = project(alloc, network, Axis::Y, &regions, ys) else {
+        return Err(NO_MEMORY);
+    };
     let systems = Systems { x, y };
     watch.end("project", &systems)?;
     if systems.x.points() == 0 {
@@ -110,8 +116,12 @@ fn settle<L: Ledger>(
     requires any { 0 < L.parts }
 {
     let mut steps = Steps::<L>::new(blank);
-    let start = bottoms(alloc, system).map_err(|_| NO_MEMORY)?;
-    let (table, mut seat) = FloorTable::new(alloc, system, &start).map_err(|_| NO_MEMORY)?;
+    let Ok(start) = bottoms(alloc, system) else {
+        return Err(NO_MEMORY);
+    };
+    let Ok((table, mut seat)) = FloorTable::new(alloc, system, &start) else {
+        return Err(NO_MEMORY);
+    };
     watch.begin()?;
     table.settle(&mut seat, &mut steps);
     watch.end("settle", &seat)

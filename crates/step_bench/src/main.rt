@@ -22,7 +22,7 @@ use crate::levels::measure_levels;
 use crate::made::Points;
 use crate::rows::measure_rows;
 use crate::texts::load_texts;
-use crate::watch::{Answer, Watch};
+use crate::watch::{Answer, NO_MEMORY, Watch};
 use net_model::network;
 use pad_reach::reach;
 use std::env;
@@ -61,19 +61,35 @@ fn run<R: Threads + Sync>(threads: &R, rt: &HostRuntime) -> Answer<()> {
     let texts = load_texts(rt, asked.design.as_str())?;
     watch.end("load", &texts)?;
     let design = joined(alloc, &mut watch, &texts)?;
-    let network = network(alloc, &design).map_err(|_| "the network isn't made")?;
+    let Ok(network) = network(alloc, &design) else {
+        return Err("the network isn't made");
+    };
     watch.end("network", &network)?;
-    let _steps = reach(alloc, &network).map_err(|_| "a cell reaches no pad")?;
+    let Ok(_) = reach(alloc, &network) else {
+        return Err("a cell reaches no pad");
+    };
     watch.end("reach", &Points(network.points()))?;
     let areas = areas(alloc, &network)?;
-    let cells = cells_as_placed(alloc, &design).map_err(|_| "memory is wanting")?;
+    let Ok(cells) = cells_as_placed(alloc, &design) else {
+        return Err(NO_MEMORY);
+    };
     measure_levels(alloc, &mut watch, &network, &areas, &cells, asked.cuts)?;
-    measure_rows(threads, alloc, &mut watch, &design, &areas, &cells, asked.times)
+    measure_rows(
+        threads,
+        alloc,
+        &mut watch,
+        &design,
+        &areas,
+        &cells,
+        asked.times,
+    )
 }
 
 /// What the words behind the program's name ask for.
 fn words_of(rt: &HostRuntime) -> Answer<Asked> {
-    let mut words = env::args(rt).map_err(|_| USAGE)?;
+    let Ok(mut words) = env::args(rt) else {
+        return Err(USAGE);
+    };
     let _program = words.next();
     let Some(design) = words.next() else {
         return Err(USAGE);
@@ -87,8 +103,11 @@ fn words_of(rt: &HostRuntime) -> Answer<Asked> {
 
 /// The number that a word is, and the usual one where there is no word.
 fn number_of(word: Option<String>, usual: u32) -> Answer<u32> {
-    match word {
-        Some(word) => word.as_str().parse::<u32>().map_err(|_| USAGE),
-        None => Ok(usual),
+    let Some(word) = word else {
+        return Ok(usual);
+    };
+    match word.as_str().parse::<u32>() {
+        Ok(number) => Ok(number),
+        Err(_) => Err(USAGE),
     }
 }

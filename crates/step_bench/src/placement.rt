@@ -30,12 +30,19 @@ pub fn corners(
     let mut places = places.iter();
     for node in design.nodes() {
         let place = if node.fixed { None } else { places.next() };
-        corners.push(match place {
-            Some(place) => spot_of(segments, place),
-            None => corner(node.x, node.y),
-        })?;
+        corners.push(corner_of(segments, node, place))?;
     }
     Ok(corners)
+}
+
+/// Where a node stands: at its place, and without one where it is.
+fn corner_of(segments: &Segments, node: &Node<'_>, place: Option<&Place>) -> Corner
+    ensures { IsNearCorner result }
+{
+    match place {
+        Some(place) => spot_of(segments, place),
+        None => corner(node.x, node.y),
+    }
 }
 
 /// Where a place lies, and the origin for one that is in no segment.

@@ -6,9 +6,9 @@ ghost use Rattle.wire_report.specs.Wire.{IsNearCorner};
 use crate::cells::{Cells, are_good};
 use crate::made::Wire;
 use crate::placement::{corners, placement_text};
-use crate::watch::{Answer, Watch};
+use crate::watch::{Answer, NO_MEMORY, Watch};
 use book_design::Design;
-use row_legal::{LegalError, legalise};
+use row_legal::legalise;
 use row_space::segments;
 use std::alloc::Global;
 use std::thread::Threads;
@@ -28,16 +28,23 @@ pub fn measure_rows<R: Threads + Sync>(
         return Err("the cells are beyond what may be placed");
     }
     watch.begin()?;
-    let segments = segments(alloc, design).map_err(|_| "memory is wanting")?;
+    let Ok(segments) = segments(alloc, design) else {
+        return Err(NO_MEMORY);
+    };
     watch.end("segments", &segments)?;
-    let places = legalise(alloc, &segments, areas, &cells.wishes).map_err(why_not)?;
+    let Ok(places) = legalise(alloc, &segments, areas, &cells.wishes) else {
+        return Err("there is no room for a cell, or memory is wanting");
+    };
     watch.end("legalise", &places)?;
-    let corners = corners(alloc, design, &segments, places.as_slice())
-        .map_err(|_| "memory is wanting")?;
+    let Ok(corners) = corners(alloc, design, &segments, places.as_slice()) else {
+        return Err(NO_MEMORY);
+    };
     watch.end("corners", &corners)?;
     measure_wires(threads, alloc, watch, design, &corners, times)?;
     watch.begin()?;
-    let text = placement_text(alloc, design, &corners).map_err(|_| "memory is wanting")?;
+    let Ok(text) = placement_text(alloc, design, &corners) else {
+        return Err(NO_MEMORY);
+    };
     watch.end("write", &text)
 }
 
@@ -55,15 +62,10 @@ fn measure_wires<R: Threads + Sync>(
     let nets = design.nets().len();
     for _ in 0..times {
         watch.begin()?;
-        let length = hpwl(threads, alloc, design, corners).map_err(|_| "memory is wanting")?;
+        let Ok(length) = hpwl(threads, alloc, design, corners) else {
+            return Err(NO_MEMORY);
+        };
         watch.end("wire", &Wire { nets, length })?;
     }
     Ok(())
-}
-
-fn why_not(error: LegalError) -> &'static str {
-    match error {
-        LegalError::NoRoom { .. } => "there is no room for a cell",
-        LegalError::Memory => "memory is wanting",
-    }
 }

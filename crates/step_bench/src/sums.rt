@@ -16,7 +16,13 @@ use wire_report::Corner;
 impl Made for Texts {
     fn told(&self) -> Told {
         let wts = self.wts.as_deref().map_or(0, |text| text.len());
-        let lengths = [self.nodes.len(), self.nets.len(), wts, self.pl.len(), self.scl.len()];
+        let lengths = [
+            self.nodes.len(),
+            self.nets.len(),
+            wts,
+            self.pl.len(),
+            self.scl.len(),
+        ];
         let mut told = Told::new(5);
         for length in lengths {
             told.add(length as u64);

@@ -1,8 +1,9 @@
 //! The texts of a design's files.
 
 ghost use Rattle.std.specs.Prelude.{◌≤◌, length, vec_len, IfOk};
+ghost use Rattle.book_files.specs.declared.loading.TheConstants.{MOST_BYTES};
 
-use crate::watch::Answer;
+use crate::watch::{Answer, NO_MEMORY};
 use book_files::{AuxFile, MOST_BYTES, load, read_aux};
 use book_outer::{Folder, HostFolder};
 use std::alloc::Global;
@@ -26,7 +27,7 @@ pub fn load_texts(rt: &HostRuntime, design: &str) -> Answer<Texts> {
     let files: Result<_, _> = rt.clone();
     match files {
         Ok(files) => gather(rt.alloc(), &mut HostFolder::new(files), design),
-        Err(_) => Err("memory is wanting"),
+        Err(_) => Err(NO_MEMORY),
     }
 }
 
@@ -73,12 +74,15 @@ fn text_beside<F: Folder>(
     let path = Path::new(design).with_file_name(alloc, name);
     match path {
         Ok(path) => text(alloc, folder, path.as_str()),
-        Err(_) => Err("memory is wanting"),
+        Err(_) => Err(NO_MEMORY),
     }
 }
 
 fn text<F: Folder>(alloc: Global, folder: &mut F, name: &str) -> Answer<Vec<u8>>
     ensures { IfOk result (λ text. vec_len text ≤ MOST_BYTES) }
 {
-    load(alloc, folder, name).map_err(|_| "a file isn't loaded")
+    match load(alloc, folder, name) {
+        Ok(text) => Ok(text),
+        Err(_) => Err("a file isn't loaded"),
+    }
 }

@@ -7,6 +7,9 @@ use std::time::Instant;
 /// What a step answers: what it made, or why the run ends.
 pub type Answer<T> = Result<T, &'static str>;
 
+/// Why a run ends where memory is wanting.
+pub const NO_MEMORY: &str = "memory is wanting";
+
 /// Measures one step after another.
 #[derive(Drop)]
 pub struct Watch<'a> {
