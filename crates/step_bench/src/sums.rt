@@ -15,7 +15,10 @@ use wire_report::Corner;
 
 impl Made for Texts {
     fn told(&self) -> Told {
-        let wts = self.wts.as_deref().map_or(0, |text| text.len());
+        let wts = match &self.wts {
+            Some(text) => text.len(),
+            None => 0,
+        };
         let lengths = [
             self.nodes.len(),
             self.nets.len(),
