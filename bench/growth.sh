@@ -5,7 +5,7 @@
 # steps (crates/step_bench). It ends behind the first design that takes one of them longer than LIMIT seconds, by default 600.
 # Usage: bench/growth.sh [--limit LIMIT] [CELLS ..], by default 1,000 cells and up to a million, each three times as many.
 . "$(dirname "$0")/runs.sh"
-program=$(built proud_cli)
+program=$(proud)
 steps=$(built step_bench)
 limit=600
 if [ "${1-}" = --limit ]; then

@@ -3,7 +3,7 @@
 # in turn, compares byte for byte what they print and place, and prints the medians in milliseconds and their ratios.
 # Usage: bench/levels.sh [AUX ..], by default a grid of 100 by 100.
 . "$(dirname "$0")/runs.sh"
-program=$(built proud_cli)
+program=$(proud)
 if [ $# = 0 ]; then
     mkdir "$work/100_by_100"
     python3 "$bench/write_grid.py" "$work/100_by_100" 100 100

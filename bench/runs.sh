@@ -16,6 +16,13 @@ built() {
     echo "$it"
 }
 
+# The placer as it is proved: the one that was built here, or else bin/proud.
+proud() {
+    local it=$bench/../crates/proud_cli/out/proud_cli
+    [ -x "$it" ] || it=$bench/../bin/proud
+    echo "$it"
+}
+
 # Makes `$aux` a copy of that design, since a placement goes beside it; `$design` says which one it is.
 adopt() {
     design=$(basename "$(dirname "$1")")/$(basename "$1")

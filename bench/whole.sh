@@ -4,7 +4,7 @@
 # wanted. A run of some milliseconds is mostly the start of a process. Usage: bench/whole.sh [AUX | R,C,K ..], by default the designs of
 # designs/ and the grid 64,64,1.
 . "$(dirname "$0")/runs.sh"
-program=$(built proud_cli)
+program=$(proud)
 [ $# -gt 0 ] || set -- "$bench"/../designs/*/*.aux 64,64,1
 for given in "$@"; do
     case $given in

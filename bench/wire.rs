@@ -10,22 +10,22 @@ pub struct Corner {
     pub y: i64,
 }
 
+/// A thread takes at least so many nets, since starting one takes as long as some thousand of them.
+const FEWEST: usize = 4096;
+
 /// The half-perimeter wire length over all nets in millionths, where each node stands at its corner.
 pub fn wire_length(design: &Design, corners: &[Corner], threads: usize) -> u128 {
-    let size = design.nets.len().div_ceil(threads).max(1);
+    let size = design.nets.len().div_ceil(threads).max(FEWEST);
+    let sum = |nets: &[Net]| -> u128 {
+        let lengths = nets.iter().map(|net| length(design, corners, net));
+        lengths.map(u128::from).sum()
+    };
     thread::scope(|scope| {
-        let parts = design.nets.chunks(size);
-        let sums: Vec<_> = parts
-            .map(|nets| {
-                let lengths = nets
-                    .iter()
-                    .map(|net| u128::from(length(design, corners, net)));
-                scope.spawn(move || lengths.sum::<u128>())
-            })
-            .collect();
-        sums.into_iter()
-            .map(|sum| sum.join().expect("a part"))
-            .sum()
+        let mut parts = design.nets.chunks(size);
+        let first = parts.next().unwrap_or(&[]);
+        let others: Vec<_> = parts.map(|nets| scope.spawn(move || sum(nets))).collect();
+        let others = others.into_iter().map(|sum| sum.join().expect("a part"));
+        sum(first) + others.sum::<u128>()
     })
 }
 
