@@ -1,6 +1,9 @@
 //! A design by hand in plain Rust: the texts beside an aux file, read and joined.
 
-use crate::readers::{Orient, RowBlock, read_nets, read_nodes, read_pl, read_scl, read_wts};
+use crate::readers::{
+    NetBlock, NodeLine, Orient, PlaceLine, RowBlock, WeightLine, read_nets, read_nodes, read_pl,
+    read_scl, read_wts,
+};
 use std::collections::{BTreeMap, HashMap};
 use std::fs;
 use std::path::{Path, PathBuf};
@@ -12,6 +15,15 @@ pub struct Texts {
     pub wts: Option<Vec<u8>>,
     pub pl: Vec<u8>,
     pub scl: Vec<u8>,
+}
+
+/// What the texts read as.
+pub struct Records<'a> {
+    pub nodes: Vec<NodeLine<'a>>,
+    pub nets: Vec<NetBlock<'a>>,
+    pub weights: Vec<WeightLine<'a>>,
+    pub places: Vec<PlaceLine<'a>>,
+    pub rows: Vec<RowBlock>,
 }
 
 pub struct Node<'a> {
@@ -83,16 +95,27 @@ pub fn load(aux: &Path) -> Texts {
     }
 }
 
-/// The design that the texts make together. What is wrong with one ends the program.
-pub fn join(texts: &Texts) -> Design<'_> {
-    let node_lines = read_nodes(&texts.nodes).expect("nodes");
-    let net_blocks = read_nets(&texts.nets).expect("nets");
-    let weight_lines = texts
-        .wts
-        .as_ref()
-        .map_or(Vec::new(), |text| read_wts(text).expect("weights"));
-    let place_lines = read_pl(&texts.pl).expect("places");
-    let rows = read_scl(&texts.scl).expect("rows");
+/// Reads the texts. What is wrong with one ends the program.
+pub fn read(texts: &Texts) -> Records<'_> {
+    Records {
+        nodes: read_nodes(&texts.nodes).expect("nodes"),
+        nets: read_nets(&texts.nets).expect("nets"),
+        weights: read_weights(texts),
+        places: read_pl(&texts.pl).expect("places"),
+        rows: read_scl(&texts.scl).expect("rows"),
+    }
+}
+
+pub fn read_weights(texts: &Texts) -> Vec<WeightLine<'_>> {
+    let text = texts.wts.as_ref();
+    text.map_or(Vec::new(), |text| read_wts(text).expect("weights"))
+}
+
+/// The design that the files make together. What is wrong with them ends the program.
+pub fn join<'a>(records: &Records<'a>) -> Design<'a> {
+    let (node_lines, net_blocks) = (&records.nodes, &records.nets);
+    let (weight_lines, place_lines) = (&records.weights, &records.places);
+    let rows = &records.rows;
 
     let mut numbers = HashMap::new();
     for (i, line) in node_lines.iter().enumerate() {
@@ -154,14 +177,14 @@ pub fn join(texts: &Texts) -> Design<'_> {
             }
         })
         .collect();
-    let core = core_of(&rows).expect("a row with a site");
+    let core = core_of(rows).expect("a row with a site");
     let (height, pitch) = (rows[0].height, rows[0].pitch);
     assert!(
         rows.iter()
             .all(|row| row.height == height && row.pitch == pitch),
         "mixed rows"
     );
-    assert!(!overlaps(&rows), "overlaps");
+    assert!(!overlaps(rows), "overlaps");
     assert!(
         nodes.iter().all(|node| node.fixed || node.height <= height),
         "a tall cell"
@@ -170,7 +193,7 @@ pub fn join(texts: &Texts) -> Design<'_> {
         nodes,
         nets,
         core,
-        subrows: subrows_of(&rows),
+        subrows: subrows_of(rows),
         row_height: height,
         pitch,
     }

@@ -1,10 +1,9 @@
 #!/usr/bin/env bash
 # Places designs with four cuts three times with the proved program on one seat and three times by hand with a crew of one seat,
-# in turn, compares byte for byte what they print and place, and prints the medians in milliseconds and their ratios. Then it
-# times the cut and the projection alone, on 200,000 points in 4,096 regions, the proved ones beside those by hand, in
-# microseconds.
+# in turn, compares byte for byte what they print and place, and prints the medians in milliseconds and their ratios.
 # Usage: bench/levels.sh [AUX ..], by default a grid of 100 by 100.
 . "$(dirname "$0")/runs.sh"
+program=$(proud)
 if [ $# = 0 ]; then
     mkdir "$work/100_by_100"
     python3 "$bench/write_grid.py" "$work/100_by_100" 100 100
@@ -24,4 +23,3 @@ for given in "$@"; do
     echo "  processor time: proved $a ms, by hand $b ms, ratio $(ratio "$a" "$b")"
     sed 's/^/  /' "$work/proved.told"
 done
-bash "$bench/cut.sh"

@@ -56,18 +56,19 @@ pub fn network(design: &Design) -> Result<Network, Fault> {
     }
     let cliques = cliques_of(design)?;
     network.join(design, &points, &cliques);
-    let anchors = network.totals.clone();
     network.add_up();
-    if let Some(point) = network.totals.iter().position(|total| *total > HEAVIEST) {
-        return Err(Fault::Heavy(point));
-    }
-    match network
-        .reached(&anchors)
-        .iter()
-        .position(|reached| !reached)
-    {
-        Some(point) => Err(Fault::Unanchored(point)),
+    match network.totals.iter().position(|total| *total > HEAVIEST) {
+        Some(point) => Err(Fault::Heavy(point)),
         None => Ok(network),
+    }
+}
+
+/// Fails at the first point from which no chain of neighbours leads to one with a fixed pin.
+pub fn reach(network: &Network) -> Result<(), Fault> {
+    let reached = network.reached();
+    match reached.iter().position(|reached| !reached) {
+        Some(point) => Err(Fault::Unanchored(point)),
+        None => Ok(()),
     }
 }
 
@@ -227,9 +228,10 @@ impl Network {
     }
 
     /// Which points have a chain of neighbours to one with a fixed pin.
-    fn reached(&self, anchors: &[u64]) -> Vec<bool> {
-        let mut reached: Vec<bool> = anchors.iter().map(|weight| *weight > 0).collect();
-        let mut due: Vec<usize> = (0..anchors.len()).filter(|point| reached[*point]).collect();
+    fn reached(&self) -> Vec<bool> {
+        let ends = self.pin_starts.windows(2);
+        let mut reached: Vec<bool> = ends.map(|ends| ends[0] < ends[1]).collect();
+        let mut due: Vec<usize> = (0..reached.len()).filter(|point| reached[*point]).collect();
         while let Some(point) = due.pop() {
             for number in &self.numbers[self.starts[point]..self.starts[point + 1]] {
                 let other = *number as usize;

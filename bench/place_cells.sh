@@ -4,6 +4,7 @@
 # The processor time is disturbed less by other work on the machine. Usage: bench/place_cells.sh [AUX ..], by default a grid of
 # 100 by 100.
 . "$(dirname "$0")/runs.sh"
+program=$(proud)
 if [ $# = 0 ]; then
     mkdir "$work/100_by_100"
     python3 "$bench/write_grid.py" "$work/100_by_100" 100 100

@@ -4,6 +4,7 @@ use crate::design::{Design, Node};
 use crate::legalise::{Place, Wish};
 use crate::network::Network;
 use crate::segments::Segment;
+use crate::wire::Corner;
 use std::io::Write as _;
 
 /// Where each point's corner would stand, with its centre at its mids, which count from the core's lower ends.
@@ -21,27 +22,46 @@ pub fn wishes(design: &Design, network: &Network, mids: &[Vec<u64>; 2]) -> Vec<W
         .collect()
 }
 
-/// A line for each node: the cells at their places, and the fixed nodes where they are.
-pub fn placement_text(design: &Design, segments: &[Segment], places: &[Place]) -> Vec<u8> {
-    let mut text = b"UCLA pl 1.0\n".to_vec();
+/// Where each node's lower left corner stands: the cells at their places, and the fixed nodes where they are.
+pub fn corners(design: &Design, segments: &[Segment], places: &[Place]) -> Vec<Corner> {
     let mut places = places.iter();
-    for node in &design.nodes {
-        if node.fixed {
-            push_line(&mut text, node, node.x, node.y, b" /FIXED\n");
-        } else if let Some(place) = places.next() {
-            let segment = &segments[place.segment as usize];
-            let x = segment.x + i64::from(place.site) * design.pitch;
-            push_line(&mut text, node, x, segment.y, b"\n");
+    let corner = |node: &Node| {
+        let place = if node.fixed { None } else { places.next() };
+        match place {
+            Some(place) => {
+                let segment = &segments[place.segment as usize];
+                Corner {
+                    x: segment.x + i64::from(place.site) * design.pitch,
+                    y: segment.y,
+                }
+            }
+            None => Corner {
+                x: node.x,
+                y: node.y,
+            },
         }
+    };
+    design.nodes.iter().map(corner).collect()
+}
+
+/// A line for each node.
+pub fn placement_text(design: &Design, corners: &[Corner]) -> Vec<u8> {
+    let mut text = b"UCLA pl 1.0\n".to_vec();
+    for (node, corner) in design.nodes.iter().zip(corners) {
+        let end: &[u8] = if node.fixed { b" /FIXED\n" } else { b"\n" };
+        push_line(&mut text, node, corner, end);
     }
     text
 }
 
-fn push_line(text: &mut Vec<u8>, node: &Node, x: i64, y: i64, end: &[u8]) {
+fn push_line(text: &mut Vec<u8>, node: &Node, corner: &Corner, end: &[u8]) {
     text.extend_from_slice(node.name);
-    for number in [x, y] {
+    for number in [corner.x, corner.y] {
         text.push(b' ');
-        push_decimal(text, number);
+        if number < 0 {
+            text.push(b'-');
+        }
+        push_decimal(text, u128::from(number.unsigned_abs()));
     }
     text.extend_from_slice(b" : ");
     text.extend_from_slice(node.orient.word());
@@ -49,11 +69,7 @@ fn push_line(text: &mut Vec<u8>, node: &Node, x: i64, y: i64, end: &[u8]) {
 }
 
 /// Millionths as a decimal without zeros at its end.
-fn push_decimal(text: &mut Vec<u8>, millionths: i64) {
-    let size = millionths.unsigned_abs();
-    if millionths < 0 {
-        text.push(b'-');
-    }
+fn push_decimal(text: &mut Vec<u8>, size: u128) {
     let (whole, mut rest) = (size / 1_000_000, size % 1_000_000);
     push_digits(text, whole);
     if rest > 0 {
@@ -67,8 +83,8 @@ fn push_decimal(text: &mut Vec<u8>, millionths: i64) {
     }
 }
 
-fn push_digits(text: &mut Vec<u8>, mut number: u64) {
-    let mut digits = [0; 20];
+fn push_digits(text: &mut Vec<u8>, mut number: u128) {
+    let mut digits = [0; 39];
     let mut from = digits.len();
     loop {
         from -= 1;
@@ -81,7 +97,7 @@ fn push_digits(text: &mut Vec<u8>, mut number: u64) {
     text.extend_from_slice(&digits[from..]);
 }
 
-pub fn report_text(design: &Design, levels: u32, gap: u64) -> Vec<u8> {
+pub fn report_text(design: &Design, levels: u32, gap: u64, wire: u128) -> Vec<u8> {
     let nodes = design.nodes.len();
     let fixed = design.nodes.iter().filter(|node| node.fixed).count();
     let pins: usize = design.nets.iter().map(|net| net.pins.len()).sum();
@@ -92,5 +108,8 @@ pub fn report_text(design: &Design, levels: u32, gap: u64) -> Vec<u8> {
         "cells {cells} terminals {fixed} nets {nets} pins {pins}\nlevels {levels} gap {gap}"
     );
     written.expect("room");
+    text.extend_from_slice(b"wire ");
+    push_decimal(&mut text, wire);
+    text.push(b'\n');
     text
 }

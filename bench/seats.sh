@@ -3,9 +3,10 @@
 # compares byte for byte what they print and place, and prints the medians in milliseconds, the speed-ups against one seat and
 # the ratios. With fewer than four processors it leaves out four seats. Usage: bench/seats.sh [SIDE], by default 100.
 . "$(dirname "$0")/runs.sh"
+program=$(proud)
 side=${1-100}
 python3 "$bench/write_grid.py" "$work" "$side" "$side"
-aux=$work/grid.aux
+aux=$work/grid.aux placement=$work/grid.proud.pl
 counts="1 2 4"
 if [ "$(nproc)" -lt 4 ]; then
     counts="1 2"

@@ -11,6 +11,18 @@ pub struct System<'a, S> {
     pub axis: &'a Axis<S>,
 }
 
+/// One shared word for each end.
+fn words_of(ends: &[u64]) -> Vec<AtomicU64> {
+    ends.iter().map(|end| AtomicU64::new(*end)).collect()
+}
+
+/// What a seat did: how many points it relaxed, and how often that moved the point's word.
+#[derive(Clone, Copy, Default)]
+pub struct Work {
+    pub relaxations: u64,
+    pub moves: u64,
+}
+
 /// Whether `b` stands past `a` on the way up, or down.
 fn is_past<const UP: bool>(a: u64, b: u64) -> bool {
     if UP { a < b } else { b < a }
@@ -77,7 +89,7 @@ impl<S: Sum> System<'_, S> {
         const APART: usize = 16;
         let start = self.start::<UP>();
         let points = start.len();
-        let words: Vec<AtomicU64> = start.iter().map(|end| AtomicU64::new(*end)).collect();
+        let words = words_of(start);
         // Each seat's view has a margin on both sides, so that no two share a cache line or a pair of them.
         let mut view = vec![0; points + 2 * APART];
         view[APART..APART + points].copy_from_slice(start);
@@ -100,6 +112,15 @@ impl<S: Sum> System<'_, S> {
         (views[0][APART..APART + points].to_vec(), counts)
     }
 
+    /// The same vector by one seat that settles all points, and what it did.
+    pub fn settle<const UP: bool>(&self) -> (Vec<u64>, Work) {
+        let words = words_of(self.start::<UP>());
+        let mut seen = self.start::<UP>().to_vec();
+        let mut work = Work::default();
+        while self.relax::<UP>(&words, &mut seen, (0, words.len()), &mut work) {}
+        (seen, work)
+    }
+
     /// What one seat does: it relaxes its range once, settles its range, and settles all points.
     fn take_turn<const UP: bool>(
         &self,
@@ -107,11 +128,11 @@ impl<S: Sum> System<'_, S> {
         seen: &mut [u64],
         range: (usize, usize),
     ) -> u64 {
-        let mut relaxations = 0;
-        self.relax::<UP>(words, seen, range, &mut relaxations);
-        while self.relax::<UP>(words, seen, range, &mut relaxations) {}
-        while self.relax::<UP>(words, seen, (0, words.len()), &mut relaxations) {}
-        relaxations
+        let mut work = Work::default();
+        self.relax::<UP>(words, seen, range, &mut work);
+        while self.relax::<UP>(words, seen, range, &mut work) {}
+        while self.relax::<UP>(words, seen, (0, words.len()), &mut work) {}
+        work.relaxations
     }
 
     /// Relaxes each point of a range once. Whether an entry of what the seat has seen moved.
@@ -124,7 +145,7 @@ impl<S: Sum> System<'_, S> {
         words: &[AtomicU64],
         seen: &mut [u64],
         (from, to): (usize, usize),
-        relaxations: &mut u64,
+        work: &mut Work,
     ) -> bool {
         let near = self.projection;
         let mut moved = false;
@@ -141,17 +162,20 @@ impl<S: Sum> System<'_, S> {
                 let word = words.get_unchecked(i);
                 let mut new = word.load(SeqCst);
                 if is_past::<UP>(new, mean) {
-                    new = if UP {
-                        word.fetch_max(mean, SeqCst).max(mean)
+                    let old = if UP {
+                        word.fetch_max(mean, SeqCst)
                     } else {
-                        word.fetch_min(mean, SeqCst).min(mean)
+                        word.fetch_min(mean, SeqCst)
                     };
+                    let past = is_past::<UP>(old, mean);
+                    new = if past { mean } else { old };
+                    work.moves += u64::from(past);
                 }
                 moved |= new != *seen.get_unchecked(i);
                 *seen.get_unchecked_mut(i) = new;
             }
         }
-        *relaxations += (to - from) as u64;
+        work.relaxations += (to - from) as u64;
         moved
     }
 }
