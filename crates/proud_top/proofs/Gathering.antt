@@ -16,7 +16,7 @@ use Rattle.proud_top.specs.declared.status.Refusal.{Refusal}
 use Rattle.proud_top.specs.declared.status.Refusal.TheVariants.{TooLong, Text}
 use Rattle.proud_top.specs.declared.stop.Stop.{Stop}
 use Rattle.proud_top.specs.declared.stop.Stop.TheVariants.{ReadFault, Refused, Memory}
-use Rattle.proud_top.specs.Request.{beside}
+use Rattle.proud_top.specs.Beside.{beside}
 use Rattle.proud_top.specs.Order.{rank, name_of, nth_of, weight_files}
 use Rattle.proud_top.specs.Accepted.{IsAccepted, IsNextFile, IsFaultOf, HasBegun}
 use Rattle.proud_top.specs.Flow.{reads}

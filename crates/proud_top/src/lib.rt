@@ -1,7 +1,8 @@
 //! The top call: from the words of a command line and a folder of files to a placement.
 //!
-//! It is two lists of steps. What touches the outside is `run`: take the words, gather the texts of the design's files, place
-//! them, deliver the placement into the output file and then the report; a step that stops puts its line instead. What is a
+//! It is two lists of steps. What touches the outside is `run`: read the words, take the texts of the design's files or those that
+//! a grid makes, place them, deliver the placement into the output file and then the report; a step that stops puts its line
+//! instead. What is a
 //! function of values is `place`: join the texts to a design, make its network, find that each point reaches a pad, cut the core
 //! and solve each level on each axis from below and from above by a crew of seats, find the free segments of the rows, give each
 //! cell a place there by the greedy rule, write the placement and the report. What comes in are words, a folder, a sink for the
@@ -20,11 +21,12 @@ mod exit;
 mod gather;
 mod inputs;
 mod laws;
+mod once;
 mod place;
 mod placement;
 mod refusal;
 mod report;
-mod request;
+mod source;
 mod status;
 mod stop;
 mod top;
@@ -33,5 +35,6 @@ pub use book_design::DesignFault;
 pub use book_files::{FileKind, TextFault, TextKind};
 pub use exit::exit_code;
 pub use net_model::NetFault;
+pub use once::one_placement;
 pub use status::{Refusal, Status};
 pub use top::proud;

@@ -17,7 +17,7 @@ use Rattle.book_files.specs.declared.loading.TheConstants.{MOST_BYTES}
 use Rattle.proud_top.specs.declared.status.Refusal.TheVariants.{TooLong, Text}
 use Rattle.proud_top.specs.declared.stop.Stop.{Stop}
 use Rattle.proud_top.specs.declared.stop.Stop.TheVariants.{ReadFault, Refused, Memory}
-use Rattle.proud_top.specs.Request.{beside}
+use Rattle.proud_top.specs.Beside.{beside}
 use Rattle.proud_top.specs.Order.{rank, name_of, nth_of}
 use Rattle.proud_top.specs.Accepted.{Reads, IsReadable, IsAccepted, IsFaultOf, HasBegun}
 use Rattle.proud_top.specs.Statuses.{IsUntouched}
@@ -88,6 +88,7 @@ pub record IsNext (old now : FolderState) (word : List ℕ) (names : AuxEntry) (
 -- what the file holds
 pub record IsText (old : FolderState) (name : List ℕ) (kind : FileKind) (text : List ℕ) : Type 0 where
   pub there : IfSome old.files (λ known. content known name ≡ Some text)
+  pub short : length text ≤ MOST_BYTES
   pub sound : IsSoundText kind text
   pub readable : IsReadable kind text
 

@@ -3,7 +3,7 @@ use Rattle.std.proofs.lemmas.Result.{err_from_is_err_and}
 use Rattle.book_files.specs.declared.records.FileKind.TheVariants.{Aux, Nodes, Nets, Pl, Scl}
 use Rattle.book_files.specs.Entries.{AuxEntry, aux_entry}
 use Rattle.proud_top.specs.declared.stop.Stop.TheVariants.{Memory}
-use Rattle.proud_top.specs.Request.{beside}
+use Rattle.proud_top.specs.Beside.{beside}
 use Rattle.proud_top.specs.Order.{weight_files}
 use Rattle.proud_top.specs.Forms.Inputs.{IsSoundText}
 use Rattle.proud_top.proofs.Gathering.{first_next, names_are, later_next, weights_below, weights_sound, gathered}
