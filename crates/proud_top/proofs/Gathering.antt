@@ -19,7 +19,7 @@ use Rattle.proud_top.specs.declared.stop.Stop.TheVariants.{ReadFault, Refused, M
 use Rattle.proud_top.specs.Beside.{beside}
 use Rattle.proud_top.specs.Order.{rank, name_of, nth_of, weight_files}
 use Rattle.proud_top.specs.Accepted.{IsAccepted, IsNextFile, IsFaultOf, HasBegun}
-use Rattle.proud_top.specs.Flow.{reads}
+use Rattle.proud_top.specs.Flow.{reads_design}
 use Rattle.proud_top.specs.Statuses.{HasReadUpTo, IsUntouched}
 use Rattle.proud_top.specs.Forms.Inputs.{IsSoundText, Holds, HoldsWeights}
 use Rattle.proud_top.specs.Forms.Stops.{StopsReading, Gathers}
@@ -120,7 +120,7 @@ load_stops kind name old now new word names m (Refused refusal) n h =
       },
       record { node = refl; point = refl },
     ) where
-      long : (o : Option (List FileEntry)) → old.files ≡ o → reads o word (Err (TooLong kind))
+      long : (o : Option (List FileEntry)) → old.files ≡ o → reads_design o word (Err (TooLong kind))
       long None e = tt
       long (Some files) e = record { name = name; nth = suc m; next = next_file old now word names kind name m files e n; long = get _ now.files files (n.below.untouched.files ∙ e) h.2 }
 load_stops kind name old now new word names m (ReadFault other) n h =
@@ -150,7 +150,7 @@ look_stops kind name text bytes old now new word names m (Refused refusal) same 
       read_up_to old now new word names kind name bytes.items m n h.0 h.1 h.3,
       record { node = refl; point = refl },
     ) where
-      bad : (o : Option (List FileEntry)) → old.files ≡ o → reads o word (Err (Text kind fault))
+      bad : (o : Option (List FileEntry)) → old.files ≡ o → reads_design o word (Err (Text kind fault))
       bad None e = tt
       bad (Some files) e =
           let F : List ℕ → Type 0 = λ t. IsFaultOf kind t fault in
@@ -174,7 +174,7 @@ next_read kind name text bytes old now new word names m same n h k =
     let looked = subst L same k in
     let there = text_there old now new word names kind name bytes.items m n h.1 in
     let up_to = read_up_to old now new word names kind name bytes.items m n h.0 h.1 h.3 in (
-      record { there = there; sound = record { short = h.2; clean = looked.1 }; readable = looked.0 },
+      record { there = there; short = h.2; sound = record { clean = looked.1 }; readable = looked.0 },
       record {
         untouched = untouched_more old now new n.below.untouched h.0.untouched;
         read_faults = up_to.reads;
@@ -219,7 +219,7 @@ first_next old word names = record {
 pub names_are : (old : FolderState) (word text shown : List ℕ) (names : AuxEntry) → shown ≡ text → IsText old word Aux text → IsReading aux_grammar shown names → AreNames old word names
 names_are old word text shown names same h reading =
     let P : List ℕ → Type 0 = λ t. IsReading aux_grammar t names in
-    known old.files (λ files e. record { text = text; there = get _ old.files files e h.there; short = h.sound.short; reading = subst P same reading })
+    known old.files (λ files e. record { text = text; there = get _ old.files files e h.there; short = h.short; reading = subst P same reading })
 
 -- the files behind it
 pub later_next : (old now : FolderState) (word : List ℕ) (names : AuxEntry) (kind : FileKind) (name : List ℕ) (n m : ℕ) → n ≡ rank kind → name_of word names kind ≡ Some name → nth_of names kind ≡ suc m
@@ -271,7 +271,7 @@ abbrev pub texts_of : Option (Vec ℕ Global) → Option (List ℕ)
 texts_of found = option_map (λ bytes. bytes.items) found
 
 holds : (old : FolderState) (files : List FileEntry) (kind : FileKind) (name text : List ℕ) → old.files ≡ Some files → IsText old name kind text → Holds files name text
-holds old files kind name text e h = record { there = get _ old.files files e h.there; short = h.sound.short }
+holds old files kind name text e h = record { there = get _ old.files files e h.there; short = h.short }
 
 weights_held : (old new : FolderState) (files : List FileEntry) (word : List ℕ) (names : AuxEntry) (wts : Option (List ℕ)) (bytes : Option (Vec ℕ Global)) → old.files ≡ Some files
     → StepsWeights old new word names (Ok bytes) wts → HoldsWeights files word wts (texts_of bytes)
@@ -287,33 +287,30 @@ weights_sound old new word names None (Some bytes) h = absurd h
 weights_sound old new word names (Some name) (Some bytes) h = h.0.sound
 
 -- all were read
-pub gathered : (old mid now new : FolderState) (word : List ℕ) (names : AuxEntry) (m : ℕ) (aux nodes nets pl scl : List ℕ) (wts : Option (Vec ℕ Global)) (shown : List ℕ)
-    → IsText old word Aux aux → shown ≡ aux → IsReading aux_grammar shown names
+pub gathered : (old mid now new : FolderState) (word : List ℕ) (names : AuxEntry) (m : ℕ) (nodes nets pl scl : List ℕ) (wts : Option (Vec ℕ Global)) → AreNames old word names
     → IsText old (beside word names.nodes) Nodes nodes → IsText old (beside word names.nets) Nets nets → StepsWeights old mid word names (Ok wts) names.wts
     → IsText old (beside word names.pl) Pl pl → IsText old (beside word names.scl) Scl scl
     → IsNext old now word names Scl (beside word names.scl) m → HasReadBelow old new word names 6 (suc m)
-    → Gathers old new word (Ok (record { aux = aux; nodes = nodes; nets = nets; wts = texts_of wts; pl = pl; scl = scl }))
-gathered old mid now new word names m aux nodes nets pl scl wts shown a same reading nodes_text nets_text weights pl_text scl_text n h =
-    let P : List ℕ → Type 0 = λ t. IsReading aux_grammar t names in (
-      h.untouched,
-      known old.files (λ files e. record {
-        names = names;
-        aux = holds old files Aux word aux e a;
-        named = subst P same reading;
-        nodes = holds old files Nodes (beside word names.nodes) nodes e nodes_text;
-        nets = holds old files Nets (beside word names.nets) nets e nets_text;
-        wts = weights_held old mid files word names names.wts wts e weights;
-        pl = holds old files Pl (beside word names.pl) pl e pl_text;
-        scl = holds old files Scl (beside word names.scl) scl e scl_text;
-      }),
-      record {
-        begun = known old.files (λ files e. record {
-          name = beside word names.scl;
-          nth = suc m;
-          next = next_file old now word names Scl (beside word names.scl) m files e n;
-          begun = h.begun;
-          present = get _ old.files files e h.missed;
-        });
-        reads = h.read_faults;
-      },
+    → Gathers old new word (Ok (record { nodes = nodes; nets = nets; wts = texts_of wts; pl = pl; scl = scl }))
+gathered old mid now new word names m nodes nets pl scl wts are nodes_text nets_text weights pl_text scl_text n h = (
+    h.untouched,
+    known old.files (λ files e. record {
+      names = names;
+      aux = get _ old.files files e are;
+      nodes = holds old files Nodes (beside word names.nodes) nodes e nodes_text;
+      nets = holds old files Nets (beside word names.nets) nets e nets_text;
+      wts = weights_held old mid files word names names.wts wts e weights;
+      pl = holds old files Pl (beside word names.pl) pl e pl_text;
+      scl = holds old files Scl (beside word names.scl) scl e scl_text;
+    }),
+    record {
+      begun = known old.files (λ files e. record {
+        name = beside word names.scl;
+        nth = suc m;
+        next = next_file old now word names Scl (beside word names.scl) m files e n;
+        begun = h.begun;
+        present = get _ old.files files e h.missed;
+      });
+      reads = h.read_faults;
+    },
     )

@@ -1,7 +1,7 @@
 use Rattle.std.proofs.Common.{◌≡◌}
 use Rattle.std.proofs.lemmas.Result.{err_from_is_err_and}
 use Rattle.proud_top.proofs.Output.{may_write, not_created, made_and_put, not_made, written, calm}
-use Rattle.proud_top.proofs.deliver.write_to.Goals as goal
+use Rattle.proud_top.proofs.deliver.write.Goals as goal
 
 pub returns-in_err-create-clause-writes : goal.returns-in_err-create-clause-writes
 returns-in_err-create-clause-writes g c =

@@ -33,7 +33,7 @@ use Rattle.proud_top.specs.Placement.{placement_of}
 use Rattle.proud_top.specs.Report.{IsReportOf}
 use Rattle.proud_top.specs.declared.stop.Stop.{Stop}
 use Rattle.proud_top.specs.declared.stop.Stop.TheVariants.{ReadFault, Refused, Memory}
-use Rattle.proud_top.specs.Forms.Inputs.{Texts}
+use Rattle.proud_top.specs.Texts.{Texts}
 use Rattle.proud_top.specs.Forms.Stops.{stop_of_net, stop_of_reach, stop_of_legal, Designs, Places}
 use Rattle.proud_top.proofs.Points.{over_cells}
 use Rattle.proud_top.proofs.place.place.Goals as goal
