@@ -1,0 +1,34 @@
+//! The command that the words are read by.
+
+ghost use Rattle.std.specs.Prelude.{◌≡◌, IfOk};
+ghost use Rattle.clap.specs.Words.{app_of};
+ghost use Rattle.proud_words.specs.Command.{proud_command};
+
+use crate::fault::WordsFault;
+use clap::builder::ValueParser;
+use clap::{Arg, Command};
+use level_run::MOST_LEVELS;
+use relax_crew::MOST_SEATS;
+use std::alloc::Global;
+
+/// The command `proud`, with its four options and its design.
+pub(crate) fn proud_command<'a>(alloc: Global) -> Result<Command<'a>, WordsFault>
+    ensures { IfOk result (λ command. app_of command ≡ proud_command) }
+{
+    let levels = Arg::new(alloc, "levels")
+        .long("levels")
+        .value_parser(ValueParser::unsigned(0, MOST_LEVELS as u64));
+    let seats = Arg::new(alloc, "seats")
+        .long("seats")
+        .value_parser(ValueParser::unsigned(1, MOST_SEATS as u64));
+    let out = Arg::new(alloc, "out").long("out");
+    let grid = Arg::new(alloc, "grid").long("grid");
+    let design = Arg::new(alloc, "DESIGN");
+    let command = Command::new(alloc, "proud")
+        .arg(levels)?
+        .arg(seats)?
+        .arg(out)?
+        .arg(grid)?
+        .arg(design)?;
+    Ok(command)
+}

@@ -1,0 +1,182 @@
+//! What the words ask for.
+
+ghost use Rattle.std.specs.Prelude.{◌≡◌, ◌≤◌, ℕ, List, IfOk, IfErr, IfSome, map, option_map, unwrap_or, string_bytes};
+ghost use Rattle.clap.specs.Words.{IsUnsignedIn, found_of, first_of, rows_of};
+ghost use Rattle.relax_crew.specs.Crew.{IsCrewSize};
+ghost use Rattle.relax_crew.specs.declared.range.TheConstants.{MOST_SEATS};
+ghost use Rattle.level_run.specs.declared.hierarchy.TheConstants.{MOST_LEVELS};
+ghost use Rattle.proud_words.specs.declared.fault.WordsFault.TheVariants.{Usage};
+ghost use Rattle.proud_words.specs.Request.{IsReading, IsRequest, IsSource, RequestValue, SourceValue, number_of, stem, usual_out};
+ghost use Rattle.proud_words.specs.Asked.{request_value, source_value};
+ghost use Rattle.proud_words.specs.Forms.Texts.{HasNumbers};
+
+use crate::command::proud_command;
+use crate::fault::WordsFault;
+use book_outer::Words;
+use book_text::Memory;
+use clap::ArgMatches;
+use grid_design::{Grid, one_grid, read_grid};
+use std::alloc::Global;
+
+/// How often the regions are cut where the words don't say.
+pub const USUAL_LEVELS: u32 = 4;
+
+/// How many seats solve a system where the words don't say.
+pub const USUAL_SEATS: usize = 4;
+
+/// What is placed.
+#[derive(Debug, Drop)]
+pub enum Source {
+    /// The design that the aux file of this name describes.
+    Design(String),
+    /// A generated one.
+    Grid(Grid),
+}
+
+/// What the words ask for.
+#[derive(Debug, Drop)]
+pub struct Request {
+    /// How often the regions are cut: from 0 to `MOST_LEVELS`.
+    pub levels: u32,
+    /// How many seats solve each system side by side: from 1 to `MOST_SEATS`.
+    pub seats: usize,
+    /// The name of the output file.
+    pub out: String,
+    /// What is placed.
+    pub source: Source,
+}
+
+/// What the words ask for, of which the first is the program's name: `Usage` where they ask for nothing that the program
+/// does, as those for help, and `Memory` for want of memory.
+pub fn requested(alloc: Global, words: &Words) -> Result<Request, WordsFault>
+    ensures asked { IfOk result (λ request. IsRequest words.now (request_value request)) }
+    ensures levels { IfOk result (λ request. request.levels ≤ MOST_LEVELS) }
+    ensures seats { IfOk result (λ request. IsCrewSize request.seats) }
+    ensures usage { IfErr result (λ fault. fault ≡ Usage → (request : RequestValue) → IsRequest words.now request → ⊥) }
+{
+    let texts = texts_of(alloc, words)?;
+    asked_by(alloc, texts.as_slice())
+}
+
+/// Words ask for one request at most, whose numbers lie in their ranges.
+pub fn one_request()
+    ensures one { (words : List (List ℕ)) (a b : RequestValue) → IsRequest words a → IsRequest words b → a ≡ b }
+    ensures levels { (words : List (List ℕ)) (request : RequestValue) → IsRequest words request → request.levels ≤ MOST_LEVELS }
+    ensures seats { (words : List (List ℕ)) (request : RequestValue) → IsRequest words request → IsCrewSize request.seats }
+{
+    one_grid();
+}
+
+/// The words, one by one.
+fn texts_of(alloc: Global, words: &Words) -> Result<Vec<&str>, Memory>
+    ensures { IfOk result (λ texts. map (λ text. text.now) texts.items ≡ words.now) }
+{
+    let mut texts = Vec::new(alloc);
+    for at in 0..words.len() {
+        texts.push(words.word(at))?;
+    }
+    Ok(texts)
+}
+
+/// What these words ask for.
+fn asked_by<'a>(alloc: Global, words: &'a [&'a str]) -> Result<Request, WordsFault>
+    ensures asked { IfOk result (λ request. IsRequest (map (λ text. text.now) words.entry.now) (request_value request)) }
+    ensures levels { IfOk result (λ request. request.levels ≤ MOST_LEVELS) }
+    ensures seats { IfOk result (λ request. IsCrewSize request.seats) }
+    ensures usage { IfErr result (λ fault. fault ≡ Usage → (request : RequestValue) → IsRequest (map (λ text. text.now) words.entry.now) request → ⊥) }
+{
+    let command = proud_command(alloc)?;
+    let matches = command.try_get_matches_from(words)?;
+    request_of(alloc, &matches)
+}
+
+/// What the matches say that is asked for.
+fn request_of(alloc: Global, matches: &ArgMatches<'_>) -> Result<Request, WordsFault>
+    requires numbers { HasNumbers (rows_of (found_of matches.now)) }
+    ensures asked { IfOk result (λ request. IsReading (rows_of (found_of matches.now)) (request_value request)) }
+    ensures levels { IfOk result (λ request. request.levels ≤ MOST_LEVELS) }
+    ensures seats { IfOk result (λ request. IsCrewSize request.seats) }
+    ensures usage { IfErr result (λ fault. fault ≡ Usage → (request : RequestValue) → IsReading (rows_of (found_of matches.now)) request → ⊥) }
+{
+    let source = source_of(alloc, matches.get_str("DESIGN"), matches.get_str("grid"))?;
+    Ok(Request {
+        levels: levels_of(matches.get_str("levels")),
+        seats: seats_of(matches.get_str("seats")),
+        out: out_of(alloc, matches.get_str("out"), &source)?,
+        source,
+    })
+}
+
+/// The number of levels: that of the option's text, or the usual one.
+fn levels_of(text: Option<&str>) -> u32
+    requires { IfSome text (λ text. IsUnsignedIn 0 MOST_LEVELS text.now) }
+    ensures number { result ≡ unwrap_or (option_map number_of (option_map (λ text. text.now) text)) USUAL_LEVELS }
+    ensures few { result ≤ MOST_LEVELS }
+{
+    match text {
+        Some(text) => text.parse().unwrap_or(USUAL_LEVELS),
+        None => USUAL_LEVELS,
+    }
+}
+
+/// The number of seats: that of the option's text, or the usual one.
+fn seats_of(text: Option<&str>) -> usize
+    requires { IfSome text (λ text. IsUnsignedIn 1 MOST_SEATS text.now) }
+    ensures number { result ≡ unwrap_or (option_map number_of (option_map (λ text. text.now) text)) USUAL_SEATS }
+    ensures size { IsCrewSize result }
+{
+    match text {
+        Some(text) => text.parse().unwrap_or(USUAL_SEATS),
+        None => USUAL_SEATS,
+    }
+}
+
+/// What is placed, where exactly one of the two texts stands and is in form.
+fn source_of(alloc: Global, design: Option<&str>, grid: Option<&str>) -> Result<Source, WordsFault>
+    ensures source { IfOk result (λ source. IsSource (option_map (λ text. text.now) design) (option_map (λ text. text.now) grid) (source_value source)) }
+    ensures usage { IfErr result (λ fault. fault ≡ Usage → (source : SourceValue)
+        → IsSource (option_map (λ text. text.now) design) (option_map (λ text. text.now) grid) source → ⊥) }
+{
+    match (design, grid) {
+        (Some(name), None) => Ok(Source::Design(String::from_str(alloc, name)?)),
+        (None, Some(word)) => match read_grid(word) {
+            Some(grid) => Ok(Source::Grid(grid)),
+            None => Err(WordsFault::Usage),
+        },
+        _ => Err(WordsFault::Usage),
+    }
+}
+
+/// The name of the output file: the option's text, or the usual one of what is placed.
+fn out_of(alloc: Global, text: Option<&str>, source: &Source) -> Result<String, Memory>
+    ensures { IfOk result (λ name. string_bytes name ≡ unwrap_or (option_map (λ text. text.now) text) (usual_out (source_value source.now))) }
+{
+    match text {
+        Some(name) => Ok(String::from_str(alloc, name)?),
+        None => usual_out(alloc, source),
+    }
+}
+
+/// The output file's name where the words give none.
+fn usual_out(alloc: Global, source: &Source) -> Result<String, Memory>
+    ensures { IfOk result (λ name. string_bytes name ≡ usual_out (source_value source.now)) }
+{
+    match source {
+        Source::Design(name) => {
+            let mut out = String::from_str(alloc, stem(name.as_str()))?;
+            out.push_str(".proud.pl")?;
+            Ok(out)
+        }
+        Source::Grid(_) => Ok(String::from_str(alloc, "grid.proud.pl")?),
+    }
+}
+
+/// A name without a final `.aux`.
+fn stem(name: &str) -> &str
+    ensures { result.now ≡ stem name.now }
+{
+    match name.strip_suffix(".aux") {
+        Some(stem) => stem,
+        None => name,
+    }
+}
