@@ -8,7 +8,7 @@ use Rattle.proud_words.specs.Request.{RequestValue, SourceValue, IsRequest}
 use Rattle.proud_top.specs.declared.status.Refusal.{Refusal}
 use Rattle.proud_top.specs.Flow.{PlacedValue, places}
 use Rattle.proud_top.specs.Statuses.{IsDone}
-use Rattle.proud_top.specs.Once.{AreSameButSeats, AreAlike}
+use Rattle.proud_top.specs.Alike.{AreSameButSeats, AreAlike}
 use Rattle.proud_top.proofs.Once.{OneAnswer}
 use Rattle.proud_top.proofs.OneEnd.{one_end}
 

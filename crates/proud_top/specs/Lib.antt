@@ -10,6 +10,6 @@ pub mod Flow
 pub mod Named
 pub mod Lines
 pub mod Statuses
-pub mod Once
+pub mod Alike
 pub mod Codes
 pub mod Forms

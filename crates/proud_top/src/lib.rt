@@ -14,6 +14,7 @@
 //! by a greedy rule, as in Tetris (D. Hill, US patent 6,370,673, 2002).
 #![tactic(auto)]
 
+mod alike;
 mod cells;
 mod crew;
 mod deliver;
@@ -21,7 +22,6 @@ mod exit;
 mod gather;
 mod inputs;
 mod laws;
-mod once;
 mod place;
 mod placement;
 mod refusal;
@@ -31,10 +31,10 @@ mod status;
 mod stop;
 mod top;
 
+pub use alike::one_placement;
 pub use book_design::DesignFault;
 pub use book_files::{FileKind, TextFault, TextKind};
 pub use exit::exit_code;
 pub use net_model::NetFault;
-pub use once::one_placement;
 pub use status::{Refusal, Status};
 pub use top::proud;

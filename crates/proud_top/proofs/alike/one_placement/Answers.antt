@@ -1,6 +1,6 @@
 use Rattle.proud_top.proofs.Once.{OneAnswer}
 use Rattle.proud_top.proofs.Same.{same_placement}
-use Rattle.proud_top.proofs.once.one_placement.Goals as goal
+use Rattle.proud_top.proofs.alike.one_placement.Goals as goal
 
 pub returns : goal.returns
 returns c words words' files folder folder' other other' report report' sink sink' same known known' h k =

@@ -4,7 +4,7 @@ ghost use Rattle.std.specs.Prelude.{◌≡◌, ℕ, List, Some};
 ghost use Rattle.book_outer.specs.Files.{FileEntry};
 ghost use Rattle.book_outer.specs.State.{FolderState, SinkState};
 ghost use Rattle.proud_top.specs.Statuses.{IsDone};
-ghost use Rattle.proud_top.specs.Once.{AreSameButSeats, AreAlike};
+ghost use Rattle.proud_top.specs.Alike.{AreSameButSeats, AreAlike};
 
 use crate::laws::laws;
 use proud_words::one_request;
