@@ -1,6 +1,6 @@
 -- From what the files of a design or the texts of a grid answered to what the taking of a source says.
 use Rattle.std.proofs.Common.{◌≡◌, ◌⊎◌, ◌<◌, ℕ, suc, List, refl, sym, ◌∙◌, ap, subst, inl, inr, arith}
-use Rattle.std.specs.Prelude.{Option, Some, None, IfSome, Result, Ok, Err}
+use Rattle.std.specs.Prelude.{Some, IfSome, Result, Ok, Err}
 use Rattle.std.proofs.lemmas.Bool.{cases_order}
 use Rattle.book_outer.specs.State.{FolderState}
 use Rattle.book_files.specs.declared.records.FileKind.{FileKind}
@@ -80,19 +80,16 @@ sound_text kind text bytes done same k =
 
 -- all were looked through
 pub looked_through : (texts : Texts) (text : List ℕ) (result : Result (Unit {0}) Stop) → AreReadable texts 5 → text ≡ texts.scl
-    → IsSoundText Nodes texts.nodes → IsSoundText Nets texts.nets → ((wts : List ℕ) → texts.wts ≡ Some wts → IsSoundText Wts wts) → IsSoundText Pl texts.pl
+    → IsSoundText Nodes texts.nodes → IsSoundText Nets texts.nets → IfSome texts.wts (λ text. IsSoundText Wts text) → IsSoundText Pl texts.pl
     → Looks Scl text result → LooksThrough texts result
 looked_through texts text (Err stop) below same nodes nets wts pl k = look_stopped texts Scl text stop below (ap Some (sym same)) k
 looked_through texts text (Ok done) below same nodes nets wts pl k = record {
   nodes = nodes;
   nets = nets;
-  wts = weights texts.wts refl;
+  wts = wts;
   pl = pl;
   scl = sound_text Scl text texts.scl done same k;
-} where
-  weights : (o : Option (List ℕ)) → texts.wts ≡ o → IfSome o (λ found. IsSoundText Wts found)
-  weights None e = tt
-  weights (Some found) e = wts found e
+}
 
 -- the texts that are made are those of the grid
 pub made_texts : (grid : Grid) (texts : Generated) → AreTextsOf grid texts → generated texts ≡ grid_texts grid
