@@ -174,7 +174,7 @@ next_read kind name text bytes old now new word names m same n h k =
     let looked = subst L same k in
     let there = text_there old now new word names kind name bytes.items m n h.1 in
     let up_to = read_up_to old now new word names kind name bytes.items m n h.0 h.1 h.3 in (
-      record { there = there; short = h.2; sound = record { clean = looked.1 }; readable = looked.0 },
+      record { there = there; sound = record { short = h.2; clean = looked.1 }; readable = looked.0 },
       record {
         untouched = untouched_more old now new n.below.untouched h.0.untouched;
         read_faults = up_to.reads;
@@ -219,7 +219,7 @@ first_next old word names = record {
 pub names_are : (old : FolderState) (word text shown : List ℕ) (names : AuxEntry) → shown ≡ text → IsText old word Aux text → IsReading aux_grammar shown names → AreNames old word names
 names_are old word text shown names same h reading =
     let P : List ℕ → Type 0 = λ t. IsReading aux_grammar t names in
-    known old.files (λ files e. record { text = text; there = get _ old.files files e h.there; short = h.short; reading = subst P same reading })
+    known old.files (λ files e. record { text = text; there = get _ old.files files e h.there; short = h.sound.short; reading = subst P same reading })
 
 -- the files behind it
 pub later_next : (old now : FolderState) (word : List ℕ) (names : AuxEntry) (kind : FileKind) (name : List ℕ) (n m : ℕ) → n ≡ rank kind → name_of word names kind ≡ Some name → nth_of names kind ≡ suc m
@@ -271,7 +271,7 @@ abbrev pub texts_of : Option (Vec ℕ Global) → Option (List ℕ)
 texts_of found = option_map (λ bytes. bytes.items) found
 
 holds : (old : FolderState) (files : List FileEntry) (kind : FileKind) (name text : List ℕ) → old.files ≡ Some files → IsText old name kind text → Holds files name text
-holds old files kind name text e h = record { there = get _ old.files files e h.there; short = h.short }
+holds old files kind name text e h = record { there = get _ old.files files e h.there; short = h.sound.short }
 
 weights_held : (old new : FolderState) (files : List FileEntry) (word : List ℕ) (names : AuxEntry) (wts : Option (List ℕ)) (bytes : Option (Vec ℕ Global)) → old.files ≡ Some files
     → StepsWeights old new word names (Ok bytes) wts → HoldsWeights files word wts (texts_of bytes)

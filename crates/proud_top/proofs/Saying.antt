@@ -29,7 +29,7 @@ use Rattle.row_space.specs.Values.{SegmentsValue}
 use Rattle.row_legal.specs.Cells.{CellsValue}
 use Rattle.proud_top.specs.declared.place.Placed.{Placed}
 use Rattle.proud_words.specs.Request.{RequestValue, SourceValue, of_design, of_grid, IsRequest}
-use Rattle.proud_top.specs.Texts.{Texts, AreWeights, AreRecords, grid_texts}
+use Rattle.proud_top.specs.Texts.{Texts, AreWeights, AreRecords, AreShort}
 use Rattle.proud_top.specs.Accepted.{ReadsWeights, Accepts, IsLast}
 use Rattle.proud_top.specs.Wishes.{AreCells}
 use Rattle.proud_top.specs.Placement.{IsLegalText}
@@ -175,8 +175,8 @@ design_reads (Some files) word texts records h k = (h.names, accepts_texts files
 source_reads : (o : Option (List FileEntry)) (source : SourceValue) (texts : Texts) (records : Records) → AreTextsOf o source texts → AreRecords texts records → reads o source (Ok records)
 source_reads o (of_design word) texts records h k = design_reads o word texts records h k
 source_reads o (of_grid grid) texts records h k =
-    let P : Texts → Type 0 = λ t. AreRecords t records in
-    subst P h k
+    let P : Texts → Type 0 = λ t. AreShort t × AreRecords t records in
+    subst P h.0 (h.1, k)
 
 -- the flow from the texts on is that from the source on
 flow_texts : (o : Option (List FileEntry)) (source : SourceValue) (count : ℕ) (texts : Texts) (end : Result PlacedValue Refusal) → AreTextsOf o source texts → places_texts count texts end → places o source count end

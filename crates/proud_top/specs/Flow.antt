@@ -28,7 +28,7 @@ use Rattle.row_legal.specs.Places.{IsLegalised}
 use Rattle.row_legal.specs.Answers.{HasNoRoom}
 use Rattle.row_legal.specs.Spots.{spots_of}
 use Rattle.proud_words.specs.Request.{SourceValue, of_design, of_grid}
-use Rattle.proud_top.specs.Texts.{Texts, AreRecords, IsFirstBad, grid_texts}
+use Rattle.proud_top.specs.Texts.{Texts, AreRecords, AreShort, IsFirstLong, IsFirstBad, grid_texts}
 use Rattle.proud_top.specs.Solve.{AreSolved}
 use Rattle.proud_top.specs.Wishes.{AreCells}
 use Rattle.proud_top.specs.Placement.{placement_of}
@@ -60,11 +60,11 @@ abbrev pub reads_design : Option (List FileEntry) → List ℕ → Result Record
 reads_design None word result = Unit {0}
 reads_design (Some files) word result = reads_known files word result
 
--- The records as which texts read; or the first text that has a fault.
+-- The records as which texts read; or the first of them that is too long, or has a fault.
 abbrev pub reads_texts : Texts → Result Records Refusal → Type 0
-reads_texts texts (Ok records) = AreRecords texts records
+reads_texts texts (Ok records) = AreShort texts × AreRecords texts records
+reads_texts texts (Err (TooLong kind)) = IsFirstLong texts kind
 reads_texts texts (Err (Text kind fault)) = IsFirstBad texts kind fault
-reads_texts texts (Err (TooLong kind)) = ⊥
 reads_texts texts (Err (Design fault)) = ⊥
 reads_texts texts (Err (Net fault)) = ⊥
 reads_texts texts (Err (Unanchored point)) = ⊥

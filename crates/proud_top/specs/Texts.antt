@@ -1,5 +1,5 @@
 -- The texts of a design, and as which records they read; and the texts that a grid makes.
-use Rattle.std.specs.Prelude.{◌≡◌, ℕ, ◌<◌, List, Option, Some, None}
+use Rattle.std.specs.Prelude.{◌≡◌, ℕ, ◌<◌, ◌≤◌, List, length, Option, Some, None}
 use Rattle.book_files.specs.declared.records.FileKind.{FileKind}
 use Rattle.book_files.specs.declared.records.FileKind.TheVariants.{Aux, Nodes, Nets, Wts, Pl, Scl}
 use Rattle.book_files.specs.declared.fault.TextFault.{TextFault}
@@ -10,6 +10,7 @@ use Rattle.book_files.specs.NetRules.{nets_grammar}
 use Rattle.book_files.specs.WeightRules.{weights_grammar}
 use Rattle.book_files.specs.PlaceRules.{places_grammar}
 use Rattle.book_files.specs.RowRules.{rows_grammar}
+use Rattle.book_files.specs.declared.loading.TheConstants.{MOST_BYTES}
 use Rattle.book_design.specs.Records.{Records}
 use Rattle.grid_design.specs.declared.asked.Grid.{Grid}
 use Rattle.grid_design.specs.Texts.{nodes_text, nets_text, wts_text, pl_text, scl_text}
@@ -48,15 +49,32 @@ pub record AreRecords (texts : Texts) (records : Records) : Type 0 where
   pub places : IsReading places_grammar texts.pl records.places
   pub rows : IsReading rows_grammar texts.scl records.rows
 
--- each text of a rank below n reads as some records
-abbrev pub AreReadable : Texts → ℕ → Type 0
-AreReadable texts n = (kind : FileKind) (text : List ℕ) → rank kind < n → text_of texts kind ≡ Some text → IsReadable kind text
+-- no text has more bytes than a file may have
+abbrev pub AreShort : Texts → Type 0
+AreShort texts = (kind : FileKind) (text : List ℕ) → text_of texts kind ≡ Some text → length text ≤ MOST_BYTES
 
--- each text before that of the kind reads as some records, and that one has this first fault
+-- the text of the kind alone is accepted
+pub record IsGoodText (kind : FileKind) (text : List ℕ) : Type 0 where
+  pub short : length text ≤ MOST_BYTES
+  pub readable : IsReadable kind text
+
+-- each text of a rank below n is accepted
+abbrev pub AreGoodBelow : Texts → ℕ → Type 0
+AreGoodBelow texts n = (kind : FileKind) (text : List ℕ) → rank kind < n → text_of texts kind ≡ Some text → IsGoodText kind text
+
+-- each text before that of the kind is accepted, and that one has more bytes than a file may have
+pub record IsFirstLong (texts : Texts) (kind : FileKind) : Type 0 where
+  pub text : List ℕ
+  pub there : text_of texts kind ≡ Some text
+  pub before : AreGoodBelow texts (rank kind)
+  pub long : MOST_BYTES < length text
+
+-- each text before that of the kind is accepted, and that one isn't too long and has this first fault
 pub record IsFirstBad (texts : Texts) (kind : FileKind) (fault : TextFault) : Type 0 where
   pub text : List ℕ
   pub there : text_of texts kind ≡ Some text
-  pub before : AreReadable texts (rank kind)
+  pub before : AreGoodBelow texts (rank kind)
+  pub short : length text ≤ MOST_BYTES
   pub faulty : IsFaultOf kind text fault
 
 -- the texts of the design of a grid

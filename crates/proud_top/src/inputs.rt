@@ -20,7 +20,7 @@ use book_text::Memory;
 use std::alloc::Global;
 use std::marker::Model;
 
-/// The texts of a design, none of which has a fault.
+/// The texts of a design, none of which is too long or has a fault.
 #[derive(Drop)]
 pub(crate) struct Inputs {
     pub(crate) nodes: Vec<u8>,

@@ -2,12 +2,13 @@
 
 ghost use Rattle.grid_design.specs.Asked.{IsSide};
 ghost use Rattle.proud_words.specs.Asked.{source_value};
-ghost use Rattle.proud_top.specs.Forms.Sources.{HasGoodSides, Takes, Generates, LooksThrough, generated};
+ghost use Rattle.proud_top.specs.Forms.Sources.{HasGoodSides, Takes, Generates, LooksThrough, LooksAt, generated};
 
 use crate::gather::{gather, look};
 use crate::inputs::Inputs;
+use crate::status::Refusal;
 use crate::stop::Stop;
-use book_files::FileKind;
+use book_files::{FileKind, MOST_BYTES};
 use book_outer::Folder;
 use grid_design::{Grid, Texts, grid_texts};
 use proud_words::Source;
@@ -28,7 +29,7 @@ pub(crate) fn take<F: Folder>(
     }
 }
 
-/// The texts that the grid makes, none of which has a fault.
+/// The texts that the grid makes.
 fn generate(alloc: Global, grid: Grid) -> Result<Inputs, Stop>
     requires rows { IsSide grid.rows }
     requires columns { IsSide grid.columns }
@@ -45,13 +46,23 @@ fn generate(alloc: Global, grid: Grid) -> Result<Inputs, Stop>
     })
 }
 
-/// Looks through the texts for the first fault of the first that has one.
+/// Looks through the texts, one after another, for what is first wrong with them.
 fn look_through(alloc: Global, texts: &Texts) -> Result<(), Stop>
     ensures { LooksThrough (generated texts.now) result }
 {
-    look(alloc, FileKind::Nodes, &texts.nodes)?;
-    look(alloc, FileKind::Nets, &texts.nets)?;
-    look(alloc, FileKind::Wts, &texts.wts)?;
-    look(alloc, FileKind::Pl, &texts.pl)?;
-    look(alloc, FileKind::Scl, &texts.scl)
+    look_at(alloc, FileKind::Nodes, &texts.nodes)?;
+    look_at(alloc, FileKind::Nets, &texts.nets)?;
+    look_at(alloc, FileKind::Wts, &texts.wts)?;
+    look_at(alloc, FileKind::Pl, &texts.pl)?;
+    look_at(alloc, FileKind::Scl, &texts.scl)
+}
+
+/// Looks whether a text is too long, and then through it for its first fault.
+fn look_at(alloc: Global, kind: FileKind, text: &[u8]) -> Result<(), Stop>
+    ensures { LooksAt kind text.now result }
+{
+    if text.len() > MOST_BYTES {
+        return Err(Stop::Refused(Refusal::TooLong(kind)));
+    }
+    look(alloc, kind, text)
 }

@@ -88,7 +88,6 @@ pub record IsNext (old now : FolderState) (word : List ℕ) (names : AuxEntry) (
 -- what the file holds
 pub record IsText (old : FolderState) (name : List ℕ) (kind : FileKind) (text : List ℕ) : Type 0 where
   pub there : IfSome old.files (λ known. content known name ≡ Some text)
-  pub short : length text ≤ MOST_BYTES
   pub sound : IsSoundText kind text
   pub readable : IsReadable kind text
 

@@ -17,8 +17,9 @@ use Rattle.proud_top.specs.Accepted.{Reads, IsFaultOf}
 use Rattle.proud_top.specs.Texts.{Texts, AreRecords}
 use Rattle.proud_top.specs.Flow.{◌then◌, PlacedValue, places_records}
 
--- the text of the kind has no fault
+-- the text of the kind isn't too long and has no fault
 pub record IsSoundText (kind : FileKind) (text : List ℕ) : Type 0 where
+  pub short : length text ≤ MOST_BYTES
   pub clean : (fault : TextFault) → IsFaultOf kind text fault → ⊥
 
 pub record AreSound (texts : Texts) : Type 0 where
