@@ -1,0 +1,5 @@
+pub mod Commas
+pub mod Appended
+pub mod Lined
+pub mod Wired
+pub mod Written

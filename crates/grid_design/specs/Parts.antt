@@ -1,5 +1,5 @@
 -- The nodes and the nets of a grid's design, in order.
-use Rattle.std.specs.Prelude.{ℕ, ◌+◌, ◌-◌, ◌*◌, ◌/◌, List, ◌++◌, map, flat_map, codes, decimal}
+use Rattle.std.specs.Prelude.{ℕ, ◌+◌, ◌-◌, ◌*◌, List, ◌++◌, map, flat_map, codes, decimal}
 use Rattle.std.specs.List.{range_with_len}
 use Rattle.grid_design.specs.declared.asked.Grid.{Grid}
 use Rattle.grid_design.specs.declared.parts.Side.{Side}

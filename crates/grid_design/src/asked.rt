@@ -49,7 +49,7 @@ fn read_side(word: &str) -> Option<u32>
 
 /// The number that a word writes as its decimal, without zeros in front.
 fn read_decimal(word: &str) -> Option<u64>
-    ensures { MatchOption result ((number : ℕ) → number < 2 ^ 64 → word.now ≡ decimal number → ⊥) (λ number. word.now ≡ decimal number) }
+    ensures { MatchOption result ((number : ℕ) → number < 2 ^ 64 → word.now ≡ decimal number → ⊥) (λ number. (number < 2 ^ 64) × (word.now ≡ decimal number)) }
 {
     let number = word.parse::<u64>().ok()?;
     let mut buffer = Buffer::new();

@@ -37,7 +37,7 @@ pub(crate) fn put_line(text: &mut Vec<u8>, words: &[Word<'_>]) -> Result<(), Mem
 
 /// Appends a word.
 fn put_word(text: &mut Vec<u8>, word: Word<'_>) -> Result<(), Memory>
-    ensures { OnOk result (text.new.items ≡ text.old.items ++ word_text word) }
+    ensures { OnOk result (text.new.items ≡ text.old.items ++ word_text word.entry) }
 {
     match word {
         Word::Text(word) => Ok(text.extend_from_slice(word.as_bytes())?),
