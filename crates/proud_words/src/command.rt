@@ -4,7 +4,7 @@ ghost use Rattle.std.specs.Prelude.{◌≡◌, IfOk};
 ghost use Rattle.clap.specs.Words.{app_of};
 ghost use Rattle.proud_words.specs.Command.{proud_command};
 
-use crate::fault::WordsFault;
+use book_text::Memory;
 use clap::builder::ValueParser;
 use clap::{Arg, Command};
 use level_run::MOST_LEVELS;
@@ -12,7 +12,7 @@ use relax_crew::MOST_SEATS;
 use std::alloc::Global;
 
 /// The command `proud`, with its four options and its design.
-pub(crate) fn proud_command<'a>(alloc: Global) -> Result<Command<'a>, WordsFault>
+pub(crate) fn proud_command<'a>(alloc: Global) -> Result<Command<'a>, Memory>
     ensures { IfOk result (λ command. app_of command ≡ proud_command) }
 {
     let levels = Arg::new(alloc, "levels")

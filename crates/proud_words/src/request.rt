@@ -8,7 +8,7 @@ ghost use Rattle.level_run.specs.declared.hierarchy.TheConstants.{MOST_LEVELS};
 ghost use Rattle.proud_words.specs.declared.fault.WordsFault.TheVariants.{Usage};
 ghost use Rattle.proud_words.specs.Request.{IsReading, IsRequest, IsSource, RequestValue, SourceValue, number_of, stem, usual_out};
 ghost use Rattle.proud_words.specs.Asked.{request_value, source_value};
-ghost use Rattle.proud_words.specs.Forms.Texts.{HasNumbers};
+ghost use Rattle.proud_words.specs.Forms.Texts.{HasNumbers, text_in};
 
 use crate::command::proud_command;
 use crate::fault::WordsFault;
@@ -110,7 +110,7 @@ fn request_of(alloc: Global, matches: &ArgMatches<'_>) -> Result<Request, WordsF
 /// The number of levels: that of the option's text, or the usual one.
 fn levels_of(text: Option<&str>) -> u32
     requires { IfSome text (λ text. IsUnsignedIn 0 MOST_LEVELS text.now) }
-    ensures number { result ≡ unwrap_or (option_map number_of (option_map (λ text. text.now) text)) USUAL_LEVELS }
+    ensures number { result ≡ unwrap_or (option_map number_of (text_in text.entry)) USUAL_LEVELS }
     ensures few { result ≤ MOST_LEVELS }
 {
     match text {
@@ -122,7 +122,7 @@ fn levels_of(text: Option<&str>) -> u32
 /// The number of seats: that of the option's text, or the usual one.
 fn seats_of(text: Option<&str>) -> usize
     requires { IfSome text (λ text. IsUnsignedIn 1 MOST_SEATS text.now) }
-    ensures number { result ≡ unwrap_or (option_map number_of (option_map (λ text. text.now) text)) USUAL_SEATS }
+    ensures number { result ≡ unwrap_or (option_map number_of (text_in text.entry)) USUAL_SEATS }
     ensures size { IsCrewSize result }
 {
     match text {
@@ -133,9 +133,9 @@ fn seats_of(text: Option<&str>) -> usize
 
 /// What is placed, where exactly one of the two texts stands and is in form.
 fn source_of(alloc: Global, design: Option<&str>, grid: Option<&str>) -> Result<Source, WordsFault>
-    ensures source { IfOk result (λ source. IsSource (option_map (λ text. text.now) design) (option_map (λ text. text.now) grid) (source_value source)) }
+    ensures source { IfOk result (λ source. IsSource (text_in design.entry) (text_in grid.entry) (source_value source)) }
     ensures usage { IfErr result (λ fault. fault ≡ Usage → (source : SourceValue)
-        → IsSource (option_map (λ text. text.now) design) (option_map (λ text. text.now) grid) source → ⊥) }
+        → IsSource (text_in design.entry) (text_in grid.entry) source → ⊥) }
 {
     match (design, grid) {
         (Some(name), None) => Ok(Source::Design(String::from_str(alloc, name)?)),
@@ -149,7 +149,7 @@ fn source_of(alloc: Global, design: Option<&str>, grid: Option<&str>) -> Result<
 
 /// The name of the output file: the option's text, or the usual one of what is placed.
 fn out_of(alloc: Global, text: Option<&str>, source: &Source) -> Result<String, Memory>
-    ensures { IfOk result (λ name. string_bytes name ≡ unwrap_or (option_map (λ text. text.now) text) (usual_out (source_value source.now))) }
+    ensures { IfOk result (λ name. string_bytes name ≡ unwrap_or (text_in text.entry) (usual_out (source_value source.now))) }
 {
     match text {
         Some(name) => Ok(String::from_str(alloc, name)?),

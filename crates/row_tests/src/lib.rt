@@ -10,3 +10,5 @@ mod grid;
 mod legal;
 #[cfg(test)]
 mod segments;
+#[cfg(test)]
+mod words;

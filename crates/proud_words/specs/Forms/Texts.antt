@@ -1,8 +1,13 @@
 -- What the texts of taken words are.
-use Rattle.std.specs.Prelude.{List, IfSome, codes}
+use Rattle.std.specs.Prelude.{ℕ, List, Option, IfSome, codes, option_map}
+use Rattle.std.specs.Borrow.{Bor}
 use Rattle.clap.specs.Words.{IsUnsignedIn, Row, first_of}
 use Rattle.relax_crew.specs.declared.range.TheConstants.{MOST_SEATS}
 use Rattle.level_run.specs.declared.hierarchy.TheConstants.{MOST_LEVELS}
+
+-- the text behind a reference, where there is one
+abbrev pub text_in : Option (Bor (List ℕ)) → Option (List ℕ)
+text_in = option_map (λ text. text.now)
 
 -- the texts of the options `--levels` and `--seats`, where they have one, are numbers in their ranges
 pub record HasNumbers (matches : List Row) : Type 0 where

@@ -1,0 +1,7 @@
+mod Taking
+mod Passing
+mod Taken
+mod Answering
+mod One
+mod Stems
+mod Reading

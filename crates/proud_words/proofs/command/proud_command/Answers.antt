@@ -1,0 +1,36 @@
+use Rattle.std.proofs.Common.{rules, ap, ap₂, ◌∙◌, ◌≡◌, false, List, Some}
+use Rattle.std.specs.Prelude.{ℕ, Option}
+use Rattle.std.specs.Borrow.{Bor}
+use Rattle.clap.specs.Words.{Rule, new_rule, rule_of, with_rule}
+use Rattle.clap.specs.declared.builder.arg.Arg.{Arg}
+use Rattle.clap.specs.declared.builder.value_parser.ValueParser.{ValueParser}
+use Rattle.proud_words.specs.Command.{design_rule, grid_rule, levels_rule, out_rule, seats_rule}
+use Rattle.proud_words.proofs.command.proud_command.Goals as goal
+
+-- an option with a number, from its id, its name and its parser
+number_rule : (start named whole : Arg) (id : List ℕ) (name : Bor (List ℕ)) (parser : ValueParser) → rule_of start ≡ new_rule id → named ≡ record start { long = Some name }
+    → whole ≡ record named { value_parser = whole.value_parser } → whole.value_parser ≡ Some parser → rule_of whole ≡ record (new_rule id) { long = Some name.now; parser = Some parser }
+number_rule start named whole id name parser new long others given =
+    let first : rule_of whole ≡ record (rule_of named) { parser = whole.value_parser } = ap rule_of others in
+    let second : rule_of named ≡ record (rule_of start) { long = Some name.now } = ap rule_of long in
+    first ∙ ap₂ (λ (r : Rule) (p : Option ValueParser). record r { parser = p }) (second ∙ ap (λ (r : Rule). record r { long = Some name.now }) new) given
+
+local : (start named whole : Arg) (name : Bor (List ℕ)) → start.global ≡ false → named ≡ record start { long = Some name } → whole ≡ record named { value_parser = whole.value_parser } → whole.global ≡ false
+local start named whole name off long others = ap (λ (a : Arg). a.global) others ∙ ap (λ (a : Arg). a.global) long ∙ off
+
+pub returns : goal.returns
+returns c =
+    let given = c.value_parser-levels.ensures.given in
+    let given_too = c.value_parser-seats.ensures.given in
+    let levels : rule_of c.value_parser-levels.result ≡ levels_rule =
+    number_rule c.new.result c.long.result c.value_parser-levels.result _ _ _ c.new.ensures.rule c.long.ensures c.value_parser-levels.ensures.others (given.1 ∙ ap Some (given.2 ∙ c.unsigned.ensures)) in
+    let seats : rule_of c.value_parser-seats.result ≡ seats_rule =
+    number_rule c.new-2.result c.long-2.result c.value_parser-seats.result _ _ _ c.new-2.ensures.rule c.long-2.ensures c.value_parser-seats.ensures.others (given_too.1 ∙ ap Some (given_too.2 ∙ c.unsigned-2.ensures)) in
+    let levels_off = local c.new.result c.long.result c.value_parser-levels.result _ c.new.ensures.optional.1 c.long.ensures c.value_parser-levels.ensures.others in
+    let seats_off = local c.new-2.result c.long-2.result c.value_parser-seats.result _ c.new-2.ensures.optional.1 c.long-2.ensures c.value_parser-seats.ensures.others in
+    let out : rule_of c.long-out.result ≡ out_rule = search rules in
+    let grid : rule_of c.long-grid.result ≡ grid_rule = search rules in
+    let design : rule_of c.new-design.result ≡ design_rule = search rules in
+    c.in_ok-command.ensures.shape (search rules) ∙ ap₂ with_rule (c.in_ok-arg-4.ensures.shape (search rules)
+    ∙ ap₂ with_rule (c.in_ok-arg-3.ensures.shape (search rules) ∙ ap₂ with_rule (c.in_ok-arg-2.ensures.shape seats_off
+    ∙ ap₂ with_rule (c.in_ok-arg.ensures.shape levels_off ∙ ap₂ with_rule c.new-5.ensures.app levels) seats) out) grid) design
