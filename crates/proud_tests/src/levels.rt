@@ -1,10 +1,9 @@
 //! How often the regions are cut, and where the cells come to stand. All expected texts were worked out by hand.
 
 use crate::designs::{
-    Case, MIDDLE, MIDDLE_REPORT, NO_CELL, ONE_CELL, THREE_PADS, TWO_CELLS, Texts, USAGE, USUAL,
-    assert_case, case_of, placed,
+    Case, MIDDLE, MIDDLE_REPORT, NO_CELL, ONE_CELL, THREE_PADS, TWO_CELLS, Texts, USUAL,
+    assert_case, placed,
 };
-use proud_top::{FileKind, Status};
 use std::test::Fail;
 
 /// The words of a run, the design in its folder, the text of its placement, and the report.
@@ -88,36 +87,5 @@ fn levels_may_be_asked_for(rt: HostRuntime) -> Result<(), Fail> {
         let case = placed(texts, file, report);
         assert_case(&rt, rt.alloc(), Case { words, ..case })?;
     }
-    Ok(())
-}
-
-/// Words of another form.
-const OTHERS: [&[&str]; 10] = [
-    &["proud", "--levels", "13", "a.aux"],
-    &["proud", "--levels", "x", "a.aux"],
-    &["proud", "--levels", "-1", "a.aux"],
-    &["proud", "--levels", "4"],
-    &["proud", "a.aux", "--levels", "4"],
-    &["proud", "--levels", "4", "--levels", "4", "a.aux"],
-    &["proud", "--seats", "4", "--levels", "4", "a.aux"],
-    &["proud", "--levels", "4", "--seats", "65", "a.aux"],
-    &["proud", "--levels", "13", "--seats", "4", "a.aux"],
-    &["proud", "--levels", "4", "--seats", "4"],
-];
-
-#[test]
-fn other_words_of_levels_are_refused(rt: HostRuntime) -> Result<(), Fail> {
-    let usage = case_of(TWO_CELLS, Status::Usage, USAGE);
-    for words in OTHERS {
-        assert_case(&rt, rt.alloc(), Case { words, ..usage })?;
-    }
-    // the only word is the name of a design
-    let unread = case_of(
-        TWO_CELLS,
-        Status::ReadFault(FileKind::Aux),
-        b"proud: cannot read aux\n",
-    );
-    let words = &["proud", "--levels"];
-    assert_case(&rt, rt.alloc(), Case { words, ..unread })?;
     Ok(())
 }

@@ -11,6 +11,8 @@ mod exit;
 #[cfg(test)]
 mod faults;
 #[cfg(test)]
+mod grids;
+#[cfg(test)]
 mod levels;
 #[cfg(test)]
 mod limits;
@@ -18,3 +20,5 @@ mod limits;
 mod seats;
 #[cfg(test)]
 mod statuses;
+#[cfg(test)]
+mod words;

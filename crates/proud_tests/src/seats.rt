@@ -1,8 +1,7 @@
 //! How many seats are asked for, and that they run at the same time.
 
 use crate::designs::{
-    Case, NO_CELL, ONE_CELL, TWO_CELLS, Texts, USAGE, assert_case, case_of, files_of, placed,
-    words_of,
+    Case, NO_CELL, ONE_CELL, TWO_CELLS, Texts, assert_case, files_of, placed, words_of,
 };
 use book_outer::{Calls, Gate, MemFolder, MemSink};
 use book_text::Memory;
@@ -12,22 +11,12 @@ use std::process::Abort;
 use std::sync::atomic::{AtomicU64, Ordering};
 use std::test::Fail;
 
-/// Words that ask for a number of seats, and words of another form.
+/// Words that ask for a number of seats.
 const GOOD: [&[&str]; 4] = [
     &["proud", "--seats", "1", "a.aux"],
     &["proud", "--seats", "7", "a.aux"],
     &["proud", "--seats", "64", "a.aux"],
     &["proud", "--seats", "04", "a.aux"],
-];
-
-const BAD: [&[&str]; 7] = [
-    &["proud", "--seats", "0", "a.aux"],
-    &["proud", "--seats", "65", "a.aux"],
-    &["proud", "--seats", "x", "a.aux"],
-    &["proud", "--seats", "4"],
-    &["proud", "a.aux", "--seats", "4"],
-    &["proud", "-seats", "4", "a.aux"],
-    &["proud", "--seats", "4", "--seats", "4", "a.aux"],
 ];
 
 #[test]
@@ -39,18 +28,6 @@ fn seats_may_be_asked_for(rt: HostRuntime) -> Result<(), Fail> {
     for words in GOOD {
         assert_case(&rt, rt.alloc(), Case { words, ..done })?;
     }
-    let usage = case_of(TWO_CELLS, Status::Usage, USAGE);
-    for words in BAD {
-        assert_case(&rt, rt.alloc(), Case { words, ..usage })?;
-    }
-    // The only word is the name of a design.
-    let unread = case_of(
-        TWO_CELLS,
-        Status::ReadFault(FileKind::Aux),
-        b"proud: cannot read aux\n",
-    );
-    let words = &["proud", "--seats"];
-    assert_case(&rt, rt.alloc(), Case { words, ..unread })?;
     // Without a point no crew is needed.
     let words = &["proud", "--seats", "2", "a.aux"];
     let empty = placed(

@@ -16,10 +16,10 @@ use Rattle.proud_top.specs.declared.status.Refusal.{Refusal}
 use Rattle.proud_top.specs.declared.status.Refusal.TheVariants.{TooLong, Text}
 use Rattle.proud_top.specs.declared.stop.Stop.{Stop}
 use Rattle.proud_top.specs.declared.stop.Stop.TheVariants.{ReadFault, Refused, Memory}
-use Rattle.proud_top.specs.Request.{beside}
+use Rattle.proud_top.specs.Beside.{beside}
 use Rattle.proud_top.specs.Order.{rank, name_of, nth_of, weight_files}
 use Rattle.proud_top.specs.Accepted.{IsAccepted, IsNextFile, IsFaultOf, HasBegun}
-use Rattle.proud_top.specs.Flow.{reads}
+use Rattle.proud_top.specs.Flow.{reads_design}
 use Rattle.proud_top.specs.Statuses.{HasReadUpTo, IsUntouched}
 use Rattle.proud_top.specs.Forms.Inputs.{IsSoundText, Holds, HoldsWeights}
 use Rattle.proud_top.specs.Forms.Stops.{StopsReading, Gathers}
@@ -120,7 +120,7 @@ load_stops kind name old now new word names m (Refused refusal) n h =
       },
       record { node = refl; point = refl },
     ) where
-      long : (o : Option (List FileEntry)) → old.files ≡ o → reads o word (Err (TooLong kind))
+      long : (o : Option (List FileEntry)) → old.files ≡ o → reads_design o word (Err (TooLong kind))
       long None e = tt
       long (Some files) e = record { name = name; nth = suc m; next = next_file old now word names kind name m files e n; long = get _ now.files files (n.below.untouched.files ∙ e) h.2 }
 load_stops kind name old now new word names m (ReadFault other) n h =
@@ -150,7 +150,7 @@ look_stops kind name text bytes old now new word names m (Refused refusal) same 
       read_up_to old now new word names kind name bytes.items m n h.0 h.1 h.3,
       record { node = refl; point = refl },
     ) where
-      bad : (o : Option (List FileEntry)) → old.files ≡ o → reads o word (Err (Text kind fault))
+      bad : (o : Option (List FileEntry)) → old.files ≡ o → reads_design o word (Err (Text kind fault))
       bad None e = tt
       bad (Some files) e =
           let F : List ℕ → Type 0 = λ t. IsFaultOf kind t fault in
@@ -287,33 +287,30 @@ weights_sound old new word names None (Some bytes) h = absurd h
 weights_sound old new word names (Some name) (Some bytes) h = h.0.sound
 
 -- all were read
-pub gathered : (old mid now new : FolderState) (word : List ℕ) (names : AuxEntry) (m : ℕ) (aux nodes nets pl scl : List ℕ) (wts : Option (Vec ℕ Global)) (shown : List ℕ)
-    → IsText old word Aux aux → shown ≡ aux → IsReading aux_grammar shown names
+pub gathered : (old mid now new : FolderState) (word : List ℕ) (names : AuxEntry) (m : ℕ) (nodes nets pl scl : List ℕ) (wts : Option (Vec ℕ Global)) → AreNames old word names
     → IsText old (beside word names.nodes) Nodes nodes → IsText old (beside word names.nets) Nets nets → StepsWeights old mid word names (Ok wts) names.wts
     → IsText old (beside word names.pl) Pl pl → IsText old (beside word names.scl) Scl scl
     → IsNext old now word names Scl (beside word names.scl) m → HasReadBelow old new word names 6 (suc m)
-    → Gathers old new word (Ok (record { aux = aux; nodes = nodes; nets = nets; wts = texts_of wts; pl = pl; scl = scl }))
-gathered old mid now new word names m aux nodes nets pl scl wts shown a same reading nodes_text nets_text weights pl_text scl_text n h =
-    let P : List ℕ → Type 0 = λ t. IsReading aux_grammar t names in (
-      h.untouched,
-      known old.files (λ files e. record {
-        names = names;
-        aux = holds old files Aux word aux e a;
-        named = subst P same reading;
-        nodes = holds old files Nodes (beside word names.nodes) nodes e nodes_text;
-        nets = holds old files Nets (beside word names.nets) nets e nets_text;
-        wts = weights_held old mid files word names names.wts wts e weights;
-        pl = holds old files Pl (beside word names.pl) pl e pl_text;
-        scl = holds old files Scl (beside word names.scl) scl e scl_text;
-      }),
-      record {
-        begun = known old.files (λ files e. record {
-          name = beside word names.scl;
-          nth = suc m;
-          next = next_file old now word names Scl (beside word names.scl) m files e n;
-          begun = h.begun;
-          present = get _ old.files files e h.missed;
-        });
-        reads = h.read_faults;
-      },
+    → Gathers old new word (Ok (record { nodes = nodes; nets = nets; wts = texts_of wts; pl = pl; scl = scl }))
+gathered old mid now new word names m nodes nets pl scl wts are nodes_text nets_text weights pl_text scl_text n h = (
+    h.untouched,
+    known old.files (λ files e. record {
+      names = names;
+      aux = get _ old.files files e are;
+      nodes = holds old files Nodes (beside word names.nodes) nodes e nodes_text;
+      nets = holds old files Nets (beside word names.nets) nets e nets_text;
+      wts = weights_held old mid files word names names.wts wts e weights;
+      pl = holds old files Pl (beside word names.pl) pl e pl_text;
+      scl = holds old files Scl (beside word names.scl) scl e scl_text;
+    }),
+    record {
+      begun = known old.files (λ files e. record {
+        name = beside word names.scl;
+        nth = suc m;
+        next = next_file old now word names Scl (beside word names.scl) m files e n;
+        begun = h.begun;
+        present = get _ old.files files e h.missed;
+      });
+      reads = h.read_faults;
+    },
     )

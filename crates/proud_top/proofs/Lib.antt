@@ -4,8 +4,12 @@ mod Wishing
 mod Output
 mod Placing
 mod Once
+mod OneTexts
 mod OneEnd
+mod Same
+mod Sides
 mod Gathering
+mod Taking
 mod Naming
 mod Points
 mod Saying

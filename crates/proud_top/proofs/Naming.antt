@@ -18,7 +18,8 @@ use Rattle.proud_top.specs.declared.status.Refusal.{Refusal}
 use Rattle.proud_top.specs.declared.stop.Stop.TheVariants.{Refused}
 use Rattle.proud_top.specs.Lines.{refusal_line}
 use Rattle.proud_top.specs.Named.{node_of, point_of, IsNodeName, IsPointName, IsNameIn}
-use Rattle.proud_top.specs.Forms.Inputs.{Texts, IsSameRecords, AreRecords}
+use Rattle.proud_top.specs.Texts.{Texts, AreRecords}
+use Rattle.proud_top.specs.Forms.Inputs.{IsSameRecords}
 use Rattle.proud_top.specs.Forms.Stops.{IsNameless, AreRecordsOf, HasNode, HasPoint, IsNameAt, IsPointNamed, IsLineOf}
 use Rattle.proud_top.proofs.Once.{OneAnswer}
 

@@ -25,7 +25,7 @@ use Rattle.level_run.specs.Levels.{IsLevels, IsGap}
 use Rattle.row_space.specs.Values.{SegmentsValue}
 use Rattle.row_legal.specs.Cells.{CellsValue}
 use Rattle.row_legal.specs.OneAnswer.{HasOneAnswerAtMost}
-use Rattle.proud_top.specs.Request.{beside}
+use Rattle.proud_top.specs.Beside.{beside}
 use Rattle.proud_top.specs.Order.{rank, name_of}
 use Rattle.proud_top.specs.Accepted.{Reads, ReadsWeights, Accepts, IsReadable, IsAccepted, IsNextFile, IsFaultOf, IsTooLong, IsBadText}
 

@@ -30,10 +30,12 @@ use Rattle.wire_report.specs.Report.{report_of}
 use Rattle.proud_top.specs.declared.status.Refusal.{Refusal}
 use Rattle.proud_top.specs.declared.status.Refusal.TheVariants.{TooLong, Text, Design, Net, Unanchored, NoRoom}
 use Rattle.proud_top.specs.Accepted.{Accepts, IsFaultOf, IsTooLong, IsBadText}
-use Rattle.proud_top.specs.Request.{RequestValue}
+use Rattle.proud_words.specs.Request.{SourceValue, of_design, of_grid}
+use Rattle.proud_top.specs.Texts.{grid_texts}
 use Rattle.proud_top.specs.Wishes.{AreWishes, AreCells, wish_in}
-use Rattle.proud_top.specs.Flow.{PlacedValue, ◌then◌, reads_known, reads, joins, wires, reaches, solves, spaces, wishes, legalises, stands, writes, measures, reports, places_corners, places_levels, places_records, places}
+use Rattle.proud_top.specs.Flow.{PlacedValue, ◌then◌, reads_known, reads_design, reads, joins, wires, reaches, solves, spaces, wishes, legalises, stands, writes, measures, reports, places_corners, places_levels, places_records, places}
 use Rattle.proud_top.proofs.Nodes.{node_there}
+use Rattle.proud_top.proofs.OneTexts.{one_texts}
 use Rattle.proud_top.proofs.Once.{OneAnswer, one_text, long_stops, bad_stops, next_once, stops_once, accepts_all, accepts_once, fault_once}
 
 -- a step has one answer at most
@@ -152,11 +154,15 @@ one_stuck one rows cells c d s t l m h k =
     ap (λ (x : ℕ). NoRoom x s l) same.0 ∙ ap (λ (x : ℕ). NoRoom d x l) same.1 ∙ ap (λ (x : ℕ). NoRoom d t x) same.2
 
 -- one line a step
-pub one_reads : OneAnswer → (files : List FileEntry) (word : List ℕ) (a b : Result Records Refusal) → reads (Some files) word a → reads (Some files) word b → a ≡ b
-one_reads one files word (Ok x) (Ok y) h k = ap Ok (accepts_once one files word h.0 k.0 x y h.1 k.1)
-one_reads one files word (Ok x) (Err q) h k = absurd (read_or_unread one files word h.0 x q h.1 (open_unread files word q k))
-one_reads one files word (Err r) (Ok y) h k = absurd (read_or_unread one files word k.0 y r k.1 (open_unread files word r h))
-one_reads one files word (Err r) (Err q) h k = ap Err (one_unread one files word r q (open_unread files word r h) (open_unread files word q k))
+one_design : OneAnswer → (files : List FileEntry) (word : List ℕ) (a b : Result Records Refusal) → reads_design (Some files) word a → reads_design (Some files) word b → a ≡ b
+one_design one files word (Ok x) (Ok y) h k = ap Ok (accepts_once one files word h.0 k.0 x y h.1 k.1)
+one_design one files word (Ok x) (Err q) h k = absurd (read_or_unread one files word h.0 x q h.1 (open_unread files word q k))
+one_design one files word (Err r) (Ok y) h k = absurd (read_or_unread one files word k.0 y r k.1 (open_unread files word r h))
+one_design one files word (Err r) (Err q) h k = ap Err (one_unread one files word r q (open_unread files word r h) (open_unread files word q k))
+
+pub one_reads : OneAnswer → (files : List FileEntry) (source : SourceValue) (a b : Result Records Refusal) → reads (Some files) source a → reads (Some files) source b → a ≡ b
+one_reads one files (of_design word) a b h k = one_design one files word a b h k
+one_reads one files (of_grid grid) a b h k = one_texts one (grid_texts grid) a b h k
 
 pub one_joins : OneAnswer → (records : Records) (a b : Result DesignValue Refusal) → joins records a → joins records b → a ≡ b
 one_joins one records (Ok x) (Ok y) h k = ap Ok ((one.join records).one_design x y h k)
@@ -261,10 +267,9 @@ from_network count design network = reaches network then λ done. solves network
 abbrev from_design : ℕ → DesignValue → Result PlacedValue Refusal → Type 0
 from_design count design = wires design then λ network. reaches network then λ done. solves network count then λ levels. places_levels count design levels
 
-pub one_end : OneAnswer → (files : List FileEntry) (request : RequestValue) (a b : Result PlacedValue Refusal) → places (Some files) request a → places (Some files) request b → a ≡ b
-one_end one files request =
-    let count = request.levels in
-    one_then (reads (Some files) request.design) (places_records count) (one_reads one files request.design) (λ records.
+pub one_end : OneAnswer → (files : List FileEntry) (source : SourceValue) (count : ℕ) (a b : Result PlacedValue Refusal) → places (Some files) source count a → places (Some files) source count b → a ≡ b
+one_end one files source count =
+    one_then (reads (Some files) source) (places_records count) (one_reads one files source) (λ records.
     one_then (joins records) (from_design count) (one_joins one records) (λ design.
     one_then (wires design) (from_network count design) (one_wires one design) (λ network.
     one_then (reaches network) (λ done. from_reaches count design network) (one_reaches network) (λ done.
@@ -298,16 +303,15 @@ never_stuck one count design levels refusal room flow =
       by_wishes (inr (cells, are, rest)) = by_room cells are rest
 
 -- what is placed is refused for nothing
-pub never_refused : OneAnswer → (files : List FileEntry) (request : RequestValue) (names : AuxEntry) (records : Records) (design : DesignValue) (network : NetworkValue) (refusal : Refusal)
-    → Accepts files request.design names records → joins records (Ok design) → wires design (Ok network) → ((p : ℕ) → p < length network.points → HasChain (joints_of network) p)
-    → ((levels : List Level) (cells : CellsValue) → IsLevels network request.levels levels → AreCells design (level_at levels request.levels) cells → (sites : List Place) × IsLegalised (segments_of design) cells sites)
-    → places (Some files) request (Err refusal) → ⊥
-never_refused one files request names records design network refusal accepted joined wired chains room flow =
-    let count = request.levels in
-    let behind_files = through (reads (Some files) request.design) (places_records count) records (Err refusal) (one_reads one files request.design) (names, accepted) flow in
+pub never_refused : OneAnswer → (files : List FileEntry) (source : SourceValue) (count : ℕ) (records : Records) (design : DesignValue) (network : NetworkValue) (refusal : Refusal)
+    → reads (Some files) source (Ok records) → joins records (Ok design) → wires design (Ok network) → ((p : ℕ) → p < length network.points → HasChain (joints_of network) p)
+    → ((levels : List Level) (cells : CellsValue) → IsLevels network count levels → AreCells design (level_at levels count) cells → (sites : List Place) × IsLegalised (segments_of design) cells sites)
+    → places (Some files) source count (Err refusal) → ⊥
+never_refused one files source count records design network refusal accepted joined wired chains room flow =
+    let behind_files = through (reads (Some files) source) (places_records count) records (Err refusal) (one_reads one files source) accepted flow in
     let behind_join = through (joins records) (from_design count) design (Err refusal) (one_joins one records) joined behind_files in
     let behind_wires = through (wires design) (from_network count design) network (Err refusal) (one_wires one design) wired behind_join in
     none (through (reaches network) (λ done. from_reaches count design network) tt (Err refusal) (one_reaches network) chains behind_wires) where
-      none : from_reaches request.levels design network (Err refusal) → ⊥
+      none : from_reaches count design network (Err refusal) → ⊥
       none (inl h) = h
-      none (inr (levels, is, rest)) = never_stuck one request.levels design levels refusal (λ cells are. room levels cells is.levels_are are) rest
+      none (inr (levels, is, rest)) = never_stuck one count design levels refusal (λ cells are. room levels cells is.levels_are are) rest

@@ -9,8 +9,8 @@ use Rattle.book_outer.specs.Cause.{Rose, one_more, HasCause}
 use Rattle.book_outer.specs.Files.{FileEntry, nth_of, with_content}
 use Rattle.book_outer.specs.Folder.{Creates, Puts, bytes_of}
 use Rattle.book_outer.specs.State.{FolderState}
-use Rattle.proud_top.specs.Statuses.{HasFile, HasFront}
-use Rattle.proud_top.specs.Forms.Saying.{ReadsNothing, Writes}
+use Rattle.proud_top.specs.Statuses.{ReadsNothing, HasFile, HasFront}
+use Rattle.proud_top.specs.Forms.Saying.{Writes}
 
 abbrev file_of : List ℕ → List ℕ → FileEntry
 file_of name bytes = record { name = name; bytes = bytes }

@@ -28,18 +28,22 @@ use Rattle.level_run.specs.Levels.{level_at}
 use Rattle.row_space.specs.Values.{SegmentsValue}
 use Rattle.row_legal.specs.Cells.{CellsValue}
 use Rattle.proud_top.specs.declared.place.Placed.{Placed}
-use Rattle.proud_top.specs.Request.{RequestValue, requested, output_name}
+use Rattle.proud_words.specs.Request.{RequestValue, SourceValue, of_design, of_grid, IsRequest}
+use Rattle.proud_top.specs.Texts.{Texts, AreWeights, AreRecords, AreShort}
 use Rattle.proud_top.specs.Accepted.{ReadsWeights, Accepts, IsLast}
 use Rattle.proud_top.specs.Wishes.{AreCells}
 use Rattle.proud_top.specs.Placement.{IsLegalText}
-use Rattle.proud_top.specs.Flow.{PlacedValue, ◌then◌, places, reads, legalises, places_corners, places_levels, last_kind}
+use Rattle.proud_top.specs.Flow.{PlacedValue, ◌then◌, places, reads_design, reads, legalises, places_corners, places_levels, last_kind}
 use Rattle.proud_top.specs.Named.{node_of_fault, point_of_fault}
-use Rattle.proud_top.specs.Statuses.{status_of, Says, HasFile, HasFront, GotFront, HasReadUpTo, IsPlacedAs, IsCause, IsDue, IsDone, IsUsage, IsRefused, IsReadFault, IsWriteFault, IsUnwritten, not_made, not_put, not_reported, IsPutUpTo, none_put, file_put, report_put, IsCutOff, cut_before, cut_in_line, cut_in_placement, IsMemory, IsPlaceable, AreReadsCalm, AreWritesCalm, ArePutsCalm, IsUntouched}
-use Rattle.proud_top.specs.Forms.Saying.{Puts, ReadsNothing, Delivers}
-use Rattle.proud_top.specs.Forms.Inputs.{Texts, AreWeights, AreRecords, HoldsWeights, HasTexts, places_texts}
-use Rattle.proud_top.specs.Forms.Stops.{StopsReading, Gathers, placed_value, Places, HasNode, HasPoint, Covers, CoversStop, IsLineOf, Refuses}
+use Rattle.proud_top.specs.Statuses.{status_of, Says, HasFile, HasFront, GotFront, HasReadUpTo, ReadsNothing, HasRead, HasNoRequest, IsPlacedAs, IsCause, IsDue, IsDone, IsUsage, IsRefused, IsReadFault, IsWriteFault, IsUnwritten, not_made, not_put, not_reported, IsPutUpTo, none_put, file_put, report_put, IsCutOff, cut_before, cut_in_line, cut_in_placement, IsMemory, IsPlaceable, AreReadsCalm, AreWritesCalm, ArePutsCalm, IsUntouched}
+use Rattle.proud_top.specs.Forms.Saying.{Puts, Delivers}
+use Rattle.proud_top.specs.Forms.Inputs.{HoldsWeights, HasTexts, places_texts}
+use Rattle.proud_top.specs.Forms.Sources.{StopsTaking, AreTextsOf, Takes}
+use Rattle.proud_top.specs.Forms.Stops.{placed_value, Places, HasNode, HasPoint, Covers, CoversStop, IsLineOf, Refuses}
 use Rattle.proud_top.proofs.Once.{OneAnswer}
 use Rattle.proud_top.proofs.OneEnd.{one_end, never_refused, never_behind}
+use Rattle.proud_top.proofs.Same.{OneRequest, same_flow}
+use Rattle.proud_top.proofs.Output.{nothing_read}
 use Rattle.proud_top.proofs.Naming.{named_among}
 use Rattle.proud_top.proofs.Points.{heavy_there, loose_there}
 use Rattle.proud_top.proofs.Wishing.{stuck_there}
@@ -83,7 +87,11 @@ read_on (Some files) kind word f g f' h k = record { name = h.name; nth = h.nth;
 read_kept : (kind : FileKind) (word : List ℕ) (f g f' : FolderState) → HasReadUpTo kind word f g → ReadsNothing g f' → HasReadUpTo kind word f f'
 read_kept kind word f g f' h k = record { begun = read_on f.files kind word f g f' h.begun k; reads = k.read_faults ∙ h.reads }
 
--- what holds of the files since the texts were read holds since the start
+has_read_kept : (kind : FileKind) (source : SourceValue) (f g f' : FolderState) → HasRead kind source f g → ReadsNothing g f' → HasRead kind source f f'
+has_read_kept kind (of_design word) f g f' h k = read_kept kind word f g f' h k
+has_read_kept kind (of_grid grid) f g f' h k = nothing_read f g f' h k
+
+-- what holds of the files since the texts were taken holds since the start
 file_since : (name text : List ℕ) (f g f' : FolderState) → IsUntouched f g → HasFile name text g f' → HasFile name text f f'
 file_since name text f g f' kept h = h ∙ ap (λ (o : Option (List FileEntry)). option_map (λ files. with_content files name text) o) kept.files
 
@@ -107,33 +115,33 @@ up_to_since name placed f g f' s s' kept (report_put file got) = report_put (fil
 
 -- as what the request is placed, before it is delivered
 pub record IsPlacedAt (words : List (List ℕ)) (request : RequestValue) (old new : FolderState) (placed : PlacedValue) : Type 0 where
-  pub asked : requested words ≡ Some request
-  pub flow : places old.files request (Ok placed)
-  pub read : HasReadUpTo Scl request.design old new
-  pub legal : IsLegalText (λ records. reads old.files request.design (Ok records)) placed.file
+  pub asked : IsRequest words request
+  pub flow : places old.files request.source request.levels (Ok placed)
+  pub read : HasRead Scl request.source old new
+  pub legal : IsLegalText (λ records. reads old.files request.source (Ok records)) placed.file
 
 -- What was placed, once delivered, says what the status says.
 pub says_delivered : (words : List (List ℕ)) (request : RequestValue) (f g f' : FolderState) (s s' : SinkState) (placed : PlacedValue) (result : Status) → IsPlacedAt words request f g placed → IsUntouched f g → ReadsNothing g f'
-    → Delivers (output_name request.design) placed g f' s s' result → Says result words f f' s s'
+    → Delivers request.out placed g f' s s' result → Says result words f f' s s'
 says_delivered words request f g f' s s' placed result h kept none delivered = by_status result delivered where
-  by_status : (x : Status) → Delivers (output_name request.design) placed g f' s s' x → Says x words f f' s s'
+  by_status : (x : Status) → Delivers request.out placed g f' s s' x → Says x words f f' s s'
   by_status Done d = record {
     placed = placed;
-    due = record { request = request; asked = h.asked; flow = h.flow; read = read_kept Scl request.design f g f' h.read none; legal = h.legal };
-    file = file_since (output_name request.design) placed.file f g f' kept d.0;
+    due = record { request = request; asked = h.asked; flow = h.flow; read = has_read_kept Scl request.source f g f' h.read none; legal = h.legal };
+    file = file_since request.out placed.file f g f' kept d.0;
     got = d.2;
     writes = d.1 ∙ kept.write_faults;
     puts = d.3;
   }
   by_status WriteFault d = record {
     placed = placed;
-    due = record { request = request; asked = h.asked; flow = h.flow; read = read_kept Scl request.design f g f' h.read none; legal = h.legal };
-    unwritten = unwritten_since (output_name request.design) placed f g f' s s' kept d;
+    due = record { request = request; asked = h.asked; flow = h.flow; read = has_read_kept Scl request.source f g f' h.read none; legal = h.legal };
+    unwritten = unwritten_since request.out placed f g f' s s' kept d;
   }
   by_status Memory d = record {
     cut_off = cut_in_placement placed
-        (record { request = request; asked = h.asked; flow = h.flow; read = read_kept Scl request.design f g f' h.read none; legal = h.legal })
-        (up_to_since (output_name request.design) placed f g f' s s' kept d.0);
+        (record { request = request; asked = h.asked; flow = h.flow; read = has_read_kept Scl request.source f g f' h.read none; legal = h.legal })
+        (up_to_since request.out placed f g f' s s' kept d.0);
     writes = d.1 ∙ kept.write_faults;
     puts = d.2;
   }
@@ -152,7 +160,7 @@ weights_read files word (Some name) (Some text) (Some weights) h k = record { te
 
 accepts_texts : (files : List FileEntry) (word : List ℕ) (texts : Texts) (records : Records) (h : HasTexts files word texts) → AreRecords texts records → Accepts files word h.names records
 accepts_texts files word texts records h k = record {
-  aux = record { text = texts.aux; there = h.aux.there; short = h.aux.short; reading = h.named };
+  aux = h.aux;
   nodes = record { text = texts.nodes; there = h.nodes.there; short = h.nodes.short; reading = k.nodes };
   nets = record { text = texts.nets; there = h.nets.there; short = h.nets.short; reading = k.nets };
   weights = weights_read files word h.names.wts texts.wts records.weights h.wts k.weights;
@@ -160,15 +168,21 @@ accepts_texts files word texts records h k = record {
   scl = record { text = texts.scl; there = h.scl.there; short = h.scl.short; reading = k.rows };
 }
 
-reads_texts : (o : Option (List FileEntry)) (word : List ℕ) (texts : Texts) (records : Records) → IfSome o (λ files. HasTexts files word texts) → AreRecords texts records → reads o word (Ok records)
-reads_texts None word texts records h k = tt
-reads_texts (Some files) word texts records h k = (h.names, accepts_texts files word texts records h k)
+design_reads : (o : Option (List FileEntry)) (word : List ℕ) (texts : Texts) (records : Records) → IfSome o (λ files. HasTexts files word texts) → AreRecords texts records → reads_design o word (Ok records)
+design_reads None word texts records h k = tt
+design_reads (Some files) word texts records h k = (h.names, accepts_texts files word texts records h k)
 
--- the flow from the texts on is that from the files on
-flow_texts : (o : Option (List FileEntry)) (request : RequestValue) (texts : Texts) (end : Result PlacedValue Refusal) → IfSome o (λ files. HasTexts files request.design texts) → places_texts request.levels texts end → places o request end
-flow_texts o request texts (Ok placed) h flow = (flow.0, reads_texts o request.design texts flow.0 h flow.1, flow.2)
-flow_texts o request texts (Err refusal) h (inl none) = absurd none
-flow_texts o request texts (Err refusal) h (inr (records, read, rest)) = inr (records, reads_texts o request.design texts records h read, rest)
+source_reads : (o : Option (List FileEntry)) (source : SourceValue) (texts : Texts) (records : Records) → AreTextsOf o source texts → AreRecords texts records → reads o source (Ok records)
+source_reads o (of_design word) texts records h k = design_reads o word texts records h k
+source_reads o (of_grid grid) texts records h k =
+    let P : Texts → Type 0 = λ t. AreShort t × AreRecords t records in
+    subst P h.0 (h.1, k)
+
+-- the flow from the texts on is that from the source on
+flow_texts : (o : Option (List FileEntry)) (source : SourceValue) (count : ℕ) (texts : Texts) (end : Result PlacedValue Refusal) → AreTextsOf o source texts → places_texts count texts end → places o source count end
+flow_texts o source count texts (Ok placed) h flow = (flow.0, source_reads o source texts flow.0 h flow.1, flow.2)
+flow_texts o source count texts (Err refusal) h (inl none) = absurd none
+flow_texts o source count texts (Err refusal) h (inr (records, read, rest)) = inr (records, source_reads o source texts records h read, rest)
 
 -- a refusal behind the texts comes when all files were begun, and names nothing that isn't theirs
 fault_covered : (texts : Texts) (records : Records) (fault : DesignFault) → AreRecords texts records → IsFirstFault records fault → IfSome (node_of_fault fault) (HasNode texts)
@@ -221,66 +235,66 @@ late count texts refusal (inr (records, read, inr (design, joined, inr (network,
 late count texts refusal (inr (records, read, inr (design, joined, inr (network, made, inr (done, chains, inl none))))) = absurd none
 late count texts refusal (inr (records, read, inr (design, joined, inr (network, made, inr (done, chains, inr (levels, is, rest)))))) = late_levels count texts refusal records design levels read joined rest
 
-pub covered_gather : (f f' : FolderState) (word : List ℕ) (s : Stop) → StopsReading f f' word s → CoversStop None s
-covered_gather f f' word (stop.Refused refusal) h = h.3
-covered_gather f f' word (stop.ReadFault kind) h = tt
-covered_gather f f' word stop.Memory h = tt
+pub covered_take : (f f' : FolderState) (source : SourceValue) (s : Stop) → StopsTaking f f' source s → CoversStop None s
+covered_take f f' source (stop.Refused refusal) h = h.3
+covered_take f f' source (stop.ReadFault kind) h = tt
+covered_take f f' source stop.Memory h = tt
 
 pub covered_place : (count : ℕ) (texts : Texts) (s : Stop) → Places count texts (Err s) → CoversStop (Some texts) s
 covered_place count texts (stop.Refused refusal) h = (late count texts refusal h).covered
 covered_place count texts (stop.ReadFault kind) h = tt
 covered_place count texts stop.Memory h = tt
 
--- what is due where the reading of the files stopped
-pub due_gather : (words : List (List ℕ)) (request : RequestValue) (f f' : FolderState) → requested words ≡ Some request → (s : Stop) → StopsReading f f' request.design s
+-- what is due where the taking of the texts stopped
+pub due_take : (words : List (List ℕ)) (request : RequestValue) (f f' : FolderState) → IsRequest words request → (s : Stop) → StopsTaking f f' request.source s
     → (line : List ℕ) → IsLineOf None s line → (s ≡ stop.Memory → ⊥) → IsDue (status_of s) words f f' line
-due_gather words request f f' asked (stop.Refused refusal) h line is other = record {
+due_take words request f f' asked (stop.Refused refusal) h line is other = record {
   cause = record { request = request; asked = asked; flow = inl h.1 };
   read = h.2;
   name = is.0;
   named = named_among refusal is.0 (λ records none. absurd none) is.1;
   line = is.2;
 }
-due_gather words request f f' asked (stop.ReadFault kind) h line is other = record { request = request; asked = asked; rose = h.1; at = h.2; line = is }
-due_gather words request f f' asked stop.Memory h line is other = absurd (other refl)
+due_take words request f f' asked (stop.ReadFault kind) h line is other = record { request = request; word = h.2.0; asked = asked; design = h.2.1; rose = h.1; at = h.2.2; line = is }
+due_take words request f f' asked stop.Memory h line is other = absurd (other refl)
 
 -- and where what the texts make is refused
-pub due_place : (words : List (List ℕ)) (request : RequestValue) (f f' : FolderState) (texts : Texts) → requested words ≡ Some request → Gathers f f' request.design (Ok texts) → (s : Stop) → Places request.levels texts (Err s)
+pub due_place : (words : List (List ℕ)) (request : RequestValue) (f f' : FolderState) (texts : Texts) → IsRequest words request → Takes f f' request.source (Ok texts) → (s : Stop) → Places request.levels texts (Err s)
     → (line : List ℕ) → IsLineOf (Some texts) s line → (s ≡ stop.Memory → ⊥) → IsDue (status_of s) words f f' line
 due_place words request f f' texts asked g (stop.Refused refusal) h line is other =
-    let R : FileKind → Type 0 = λ kind. HasReadUpTo kind request.design f f' in
+    let R : FileKind → Type 0 = λ kind. HasRead kind request.source f f' in
     record {
-      cause = record { request = request; asked = asked; flow = flow_texts f.files request texts (Err refusal) g.1 h };
+      cause = record { request = request; asked = asked; flow = flow_texts f.files request.source request.levels texts (Err refusal) g.1 h };
       read = subst R (sym (late request.levels texts refusal h).last) g.2;
       name = is.0;
-      named = named_among refusal is.0 (λ records read. reads_texts f.files request.design texts records g.1 read) is.1;
+      named = named_among refusal is.0 (λ records read. source_reads f.files request.source texts records g.1 read) is.1;
       line = is.2;
     }
 due_place words request f f' texts asked g (stop.ReadFault kind) h line is other = absurd h
 due_place words request f f' texts asked g stop.Memory h line is other = absurd (other refl)
 
-pub placed_at : (words : List (List ℕ)) (request : RequestValue) (f f' : FolderState) (texts : Texts) (placed : Placed) → requested words ≡ Some request → Gathers f f' request.design (Ok texts) → Places request.levels texts (Ok placed)
+pub placed_at : (words : List (List ℕ)) (request : RequestValue) (f f' : FolderState) (texts : Texts) (placed : Placed) → IsRequest words request → Takes f f' request.source (Ok texts) → Places request.levels texts (Ok placed)
     → IsPlacedAt words request f f' (placed_value placed)
 placed_at words request f f' texts placed asked g h = record {
   asked = asked;
-  flow = flow_texts f.files request texts (Ok (placed_value placed)) g.1 h.0;
+  flow = flow_texts f.files request.source request.levels texts (Ok (placed_value placed)) g.1 h.0;
   read = g.2;
   legal = record {
     records = h.1.records;
     design = h.1.design;
     spots = h.1.spots;
-    read = reads_texts f.files request.design texts h.1.records g.1 h.1.read;
+    read = source_reads f.files request.source texts h.1.records g.1 h.1.read;
     joined = h.1.joined;
     legal = h.1.legal;
     is_text = h.1.is_text;
   };
 }
 
--- a folder is as it was where the reading of its files stopped
-pub untouched_at : (f f' : FolderState) (word : List ℕ) (s : Stop) → StopsReading f f' word s → IsUntouched f f'
-untouched_at f f' word (stop.Refused refusal) h = h.0
-untouched_at f f' word (stop.ReadFault kind) h = h.0
-untouched_at f f' word stop.Memory h = h.0
+-- a folder is as it was where the taking of the texts stopped
+pub untouched_at : (f f' : FolderState) (source : SourceValue) (s : Stop) → StopsTaking f f' source s → IsUntouched f f'
+untouched_at f f' source (stop.Refused refusal) h = h.0
+untouched_at f f' source (stop.ReadFault kind) h = h.0
+untouched_at f f' source stop.Memory h = h.0
 
 -- what a stop says, once its line was put
 pub says_stop : (words : List (List ℕ)) (f f' : FolderState) (s s' : SinkState) (texts : Option Texts) (x : Stop) (result : Status) → IsUntouched f f'
@@ -291,34 +305,20 @@ says_stop words f f' s s' texts x result kept due (inl (e, same)) =
 says_stop words f f' s s' texts x result kept due (inr (line, other, is, put)) =
     says words f f' s s' (status_of x) result line (due line is other) kept put
 
--- the flow of the one request that the words make
-one_request : (a b : RequestValue) → Some a ≡ Some b → a ≡ b
-one_request a b e = cc
-
-same_flow : (words : List (List ℕ)) (files : Option (List FileEntry)) (a b : RequestValue) (end : Result PlacedValue Refusal) → requested words ≡ Some a → requested words ≡ Some b → places files a end → places files b end
-same_flow words files a b end ea eb h =
-    let P : RequestValue → Type 0 = λ request. places files request end in
-    subst P (one_request a b (sym ea ∙ eb)) h
-
 abbrev refused_end : Refusal → Result PlacedValue Refusal
 refused_end refusal = Err refusal
 
 -- a run without a read fault is refused where the flow is
-pub only_refused : OneAnswer → (files : List FileEntry) (words : List (List ℕ)) (f f' : FolderState) (s s' : SinkState) (refusal : Refusal) (status : Status)
+pub only_refused : OneAnswer → OneRequest → (files : List FileEntry) (words : List (List ℕ)) (f f' : FolderState) (s s' : SinkState) (refusal : Refusal) (status : Status)
     → f.files ≡ Some files → IsCause words (Some files) refusal → AreReadsCalm f f' → Says status words f f' s s' → (status ≡ Refused refusal) ⊎ (status ≡ Memory)
-only_refused one files words f f' s s' refusal status is cause calm said = by_status status said where
-  ended : (request : RequestValue) (end : Result PlacedValue Refusal) → requested words ≡ Some request → places f.files request end → end ≡ Err refusal
+only_refused one ask files words f f' s s' refusal status is cause calm said = by_status status said where
+  ended : (request : RequestValue) (end : Result PlacedValue Refusal) → IsRequest words request → places f.files request.source request.levels end → end ≡ Err refusal
   ended request end asked flow =
-      let P : Option (List FileEntry) → Type 0 = λ o. places o request end in
-      one_end one files request end (Err refusal) (subst P is flow) (same_flow words (Some files) cause.request request (Err refusal) cause.asked asked cause.flow)
+      let P : Option (List FileEntry) → Type 0 = λ o. places o request.source request.levels end in
+      one_end one files request.source request.levels end (Err refusal) (subst P is flow) (same_flow ask words (Some files) cause.request request (Err refusal) cause.asked asked cause.flow)
 
   no_text : (placed : PlacedValue) → Ok placed ≡ Err refusal → ⊥
   no_text placed e = cc
-
-  no_form : requested words ≡ None → ⊥
-  no_form e = clash (sym e ∙ cause.asked) where
-    clash : None ≡ Some cause.request → ⊥
-    clash c = cc
 
   same : (other : Refusal) → refused_end other ≡ refused_end refusal → Refused other ≡ Refused refusal
   same other e = cc
@@ -326,25 +326,20 @@ only_refused one files words f f' s s' refusal status is cause calm said = by_st
   by_status : (x : Status) → Says x words f f' s s' → (x ≡ Refused refusal) ⊎ (x ≡ Memory)
   by_status Done h = absurd (no_text h.placed (ended h.due.request (Ok h.placed) h.due.asked h.due.flow))
   by_status WriteFault h = absurd (no_text h.placed (ended h.due.request (Ok h.placed) h.due.asked h.due.flow))
-  by_status Usage h = absurd (no_form h.due.form)
+  by_status Usage h = absurd (h.due.none cause.request cause.asked)
   by_status (Refused other) h = inl (same other (ended h.due.cause.request (Err other) h.due.cause.asked h.due.cause.flow))
   by_status (ReadFault kind) h = absurd (calm h.due.rose)
   by_status Memory h = inr refl
 
 -- a run without a fault is done where the design is accepted
-pub complete : OneAnswer → (files : List FileEntry) (words : List (List ℕ)) (f f' : FolderState) (s s' : SinkState) (status : Status)
+pub complete : OneAnswer → OneRequest → (files : List FileEntry) (words : List (List ℕ)) (f f' : FolderState) (s s' : SinkState) (status : Status)
     → f.files ≡ Some files → IsPlaceable words files → AreReadsCalm f f' → AreWritesCalm f f' → ArePutsCalm s s' → Says status words f f' s s' → (status ≡ Done) ⊎ (status ≡ Memory)
-complete one files words f f' s s' status is given calm still quiet said = by_status status said where
-  no_form : requested words ≡ None → ⊥
-  no_form e = clash (sym e ∙ given.asked) where
-    clash : None ≡ Some given.request → ⊥
-    clash c = cc
-
-  no_refusal : (refusal : Refusal) (request : RequestValue) → requested words ≡ Some request → places f.files request (Err refusal) → ⊥
+complete one ask files words f f' s s' status is given calm still quiet said = by_status status said where
+  no_refusal : (refusal : Refusal) (request : RequestValue) → IsRequest words request → places f.files request.source request.levels (Err refusal) → ⊥
   no_refusal refusal request asked flow =
-      let P : Option (List FileEntry) → Type 0 = λ o. places o request (Err refusal) in
-      never_refused one files given.request given.names given.records given.design given.network refusal given.accepted given.joined given.wired given.chains given.room
-      (same_flow words (Some files) request given.request (Err refusal) asked given.asked (subst P is flow))
+      let P : Option (List FileEntry) → Type 0 = λ o. places o request.source request.levels (Err refusal) in
+      never_refused one files given.request.source given.request.levels given.records given.design given.network refusal given.accepted given.joined given.wired given.chains given.room
+      (same_flow ask words (Some files) request given.request (Err refusal) asked given.asked (subst P is flow))
 
   unwritten : {name : List ℕ} {placed : PlacedValue} → IsUnwritten name placed f f' s s' → ⊥
   unwritten (not_made rose same none) = still rose
@@ -354,7 +349,7 @@ complete one files words f f' s s' status is given calm still quiet said = by_st
   by_status : (x : Status) → Says x words f f' s s' → (x ≡ Done) ⊎ (x ≡ Memory)
   by_status Done h = inl refl
   by_status WriteFault h = absurd (unwritten h.unwritten)
-  by_status Usage h = absurd (no_form h.due.form)
+  by_status Usage h = absurd (h.due.none given.request given.asked)
   by_status (Refused refusal) h = absurd (no_refusal refusal h.due.cause.request h.due.cause.asked h.due.cause.flow)
   by_status (ReadFault kind) h = absurd (calm h.due.rose)
   by_status Memory h = inr refl

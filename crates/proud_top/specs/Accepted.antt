@@ -16,7 +16,7 @@ use Rattle.book_files.specs.RowRules.{rows_grammar}
 use Rattle.book_files.specs.Loading.{HasLongText}
 use Rattle.book_files.specs.declared.loading.TheConstants.{MOST_BYTES}
 use Rattle.book_design.specs.Records.{Records}
-use Rattle.proud_top.specs.Request.{beside}
+use Rattle.proud_top.specs.Beside.{beside}
 use Rattle.proud_top.specs.Order.{rank, name_of, nth_of}
 
 -- the file is there, isn't too long, and reads as the records

@@ -27,7 +27,8 @@ use Rattle.row_legal.specs.Cells.{CellsValue}
 use Rattle.row_legal.specs.Places.{IsLegalised}
 use Rattle.row_legal.specs.Answers.{HasNoRoom}
 use Rattle.row_legal.specs.Spots.{spots_of}
-use Rattle.proud_top.specs.Request.{RequestValue}
+use Rattle.proud_words.specs.Request.{SourceValue, of_design, of_grid}
+use Rattle.proud_top.specs.Texts.{Texts, AreRecords, AreShort, IsFirstLong, IsFirstBad, grid_texts}
 use Rattle.proud_top.specs.Solve.{AreSolved}
 use Rattle.proud_top.specs.Wishes.{AreCells}
 use Rattle.wire_report.specs.declared.corner.Corner.{Corner}
@@ -57,9 +58,24 @@ reads_known files word (Err (Unanchored point)) = ⊥
 reads_known files word (Err (NoRoom cell sites largest)) = ⊥
 
 -- The same of a folder whose files may be unknown: of those nothing is said, here and nowhere else.
-abbrev pub reads : Option (List FileEntry) → List ℕ → Result Records Refusal → Type 0
-reads None word result = Unit {0}
-reads (Some files) word result = reads_known files word result
+abbrev pub reads_design : Option (List FileEntry) → List ℕ → Result Records Refusal → Type 0
+reads_design None word result = Unit {0}
+reads_design (Some files) word result = reads_known files word result
+
+-- The records as which texts read; or the first of them that is too long, or has a fault.
+abbrev pub reads_texts : Texts → Result Records Refusal → Type 0
+reads_texts texts (Ok records) = AreShort texts × AreRecords texts records
+reads_texts texts (Err (TooLong kind)) = IsFirstLong texts kind
+reads_texts texts (Err (Text kind fault)) = IsFirstBad texts kind fault
+reads_texts texts (Err (Design fault)) = ⊥
+reads_texts texts (Err (Net fault)) = ⊥
+reads_texts texts (Err (Unanchored point)) = ⊥
+reads_texts texts (Err (NoRoom cell sites largest)) = ⊥
+
+-- what a source reads as: the design's files, or the texts that the grid makes
+abbrev pub reads : Option (List FileEntry) → SourceValue → Result Records Refusal → Type 0
+reads files (of_design word) result = reads_design files word result
+reads files (of_grid grid) result = reads_texts (grid_texts grid) result
 
 -- the design that the records make, or their first fault
 abbrev pub joins : Records → Result DesignValue Refusal → Type 0
@@ -128,11 +144,11 @@ places_levels count design levels = spaces design then λ rows. wishes design co
 abbrev pub places_records : ℕ → Records → Result PlacedValue Refusal → Type 0
 places_records count records = joins records then λ design. wires design then λ network. reaches network then λ done. solves network count then λ levels. places_levels count design levels
 
--- The whole flow: what the design's files are placed as, or the refusal at the first step that stops.
-abbrev pub places : Option (List FileEntry) → RequestValue → Result PlacedValue Refusal → Type 0
-places files request = reads files request.design then places_records request.levels
+-- The whole flow: what the source is placed as with so many levels after the first, or the refusal at the first step that stops.
+abbrev pub places : Option (List FileEntry) → SourceValue → ℕ → Result PlacedValue Refusal → Type 0
+places files source levels = reads files source then places_records levels
 
--- the last file that is begun before a refusal
+-- the last file of a design that is begun before a refusal
 abbrev pub last_kind : Refusal → FileKind
 last_kind (TooLong kind) = kind
 last_kind (Text kind fault) = kind

@@ -1,7 +1,7 @@
-pub mod Asked
 pub mod Over
 pub mod Cells
 pub mod Inputs
 pub mod Saying
 pub mod Stops
+pub mod Sources
 pub mod Gathering

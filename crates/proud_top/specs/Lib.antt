@@ -1,6 +1,7 @@
-pub mod Request
+pub mod Beside
 pub mod Order
 pub mod Accepted
+pub mod Texts
 pub mod Solve
 pub mod Wishes
 pub mod Placement
@@ -8,5 +9,6 @@ pub mod Flow
 pub mod Named
 pub mod Lines
 pub mod Statuses
+pub mod Alike
 pub mod Codes
 pub mod Forms

@@ -1,12 +1,11 @@
 -- What each status says: why it comes, and what stands then.
-use Rattle.std.specs.Prelude.{◌≡◌, ◌⊎◌, ℕ, ◌<◌, List, [], length, take, Option, Some, None, IfSome, Ok, Err, option_map}
+use Rattle.std.specs.Prelude.{◌≡◌, ◌⊎◌, ℕ, ◌<◌, List, length, take, Option, Some, IfSome, Ok, Err, option_map}
 use Rattle.std.specs.Io.KnownBytes.{Appends}
 use Rattle.book_outer.specs.Cause.{Rose}
 use Rattle.book_outer.specs.Files.{FileEntry, with_content}
 use Rattle.book_outer.specs.State.{FolderState, SinkState}
 use Rattle.book_files.specs.declared.records.FileKind.{FileKind}
 use Rattle.book_files.specs.declared.records.FileKind.TheVariants.{Scl}
-use Rattle.book_files.specs.Entries.{AuxEntry}
 use Rattle.book_design.specs.Records.{Records}
 use Rattle.book_design.specs.Values.{DesignValue}
 use Rattle.book_design.specs.Answers.{IsJoined}
@@ -26,8 +25,8 @@ use Rattle.row_space.specs.Runs.{segments_of}
 use Rattle.row_legal.specs.declared.parts.Place.{Place}
 use Rattle.row_legal.specs.Cells.{CellsValue}
 use Rattle.row_legal.specs.Places.{IsLegalised}
-use Rattle.proud_top.specs.Request.{RequestValue, requested, output_name}
-use Rattle.proud_top.specs.Accepted.{Accepts, IsFaultAt, IsLast}
+use Rattle.proud_words.specs.Request.{RequestValue, SourceValue, of_design, of_grid, IsRequest}
+use Rattle.proud_top.specs.Accepted.{IsFaultAt, IsLast}
 use Rattle.proud_top.specs.Wishes.{AreCells}
 use Rattle.proud_top.specs.Placement.{IsLegalText}
 use Rattle.proud_top.specs.Flow.{PlacedValue, reads, places, last_kind}
@@ -44,39 +43,56 @@ pub record HasReadUpTo (kind : FileKind) (word : List ℕ) (old new : FolderStat
   pub begun : IfSome old.files (λ files. IsLast files word kind old new)
   pub reads : new.read_faults ≡ old.read_faults
 
--- The words ask for a design that is placed as this, and its cells stand legally.
+-- nothing was read
+pub record ReadsNothing (old new : FolderState) : Type 0 where
+  pub begun : new.begun ≡ old.begun
+  pub missed : new.missed ≡ old.missed
+  pub read_faults : new.read_faults ≡ old.read_faults
+
+-- Of a design the files up to that of the kind were read; for a grid nothing was.
+abbrev pub HasRead : FileKind → SourceValue → FolderState → FolderState → Type 0
+HasRead kind (of_design word) old new = HasReadUpTo kind word old new
+HasRead kind (of_grid grid) old new = ReadsNothing old new
+
+-- The words ask for a source that is placed as this, and its cells stand legally.
 pub record IsPlacedAs (words : List (List ℕ)) (old new : FolderState) (placed : PlacedValue) : Type 0 where
   pub request : RequestValue
-  pub asked : requested words ≡ Some request
-  pub flow : places old.files request (Ok placed)
-  pub read : HasReadUpTo Scl request.design old new
-  pub legal : IsLegalText (λ records. reads old.files request.design (Ok records)) placed.file
+  pub asked : IsRequest words request
+  pub flow : places old.files request.source request.levels (Ok placed)
+  pub read : HasRead Scl request.source old new
+  pub legal : IsLegalText (λ records. reads old.files request.source (Ok records)) placed.file
 
--- the words ask for a design that is refused by this
+-- the words ask for a source that is refused by this
 pub record IsCause (words : List (List ℕ)) (files : Option (List FileEntry)) (refusal : Refusal) : Type 0 where
   pub request : RequestValue
-  pub asked : requested words ≡ Some request
-  pub flow : places files request (Err refusal)
+  pub asked : IsRequest words request
+  pub flow : places files request.source request.levels (Err refusal)
 
 -- and this is the line that says so, with the name of the node that the refusal names
 pub record IsRefusal (words : List (List ℕ)) (old new : FolderState) (refusal : Refusal) (text : List ℕ) : Type 0 where
   pub cause : IsCause words old.files refusal
-  pub read : HasReadUpTo (last_kind refusal) cause.request.design old new
+  pub read : HasRead (last_kind refusal) cause.request.source old new
   pub name : List ℕ
-  pub named : IsNameIn (λ records. reads old.files cause.request.design (Ok records)) refusal name
+  pub named : IsNameIn (λ records. reads old.files cause.request.source (Ok records)) refusal name
   pub line : text ≡ refusal_line refusal name
 
--- A read fault was counted at the file of the kind.
+-- The words ask for the design of this word, and a read fault was counted at its file of the kind.
 pub record IsUnread (words : List (List ℕ)) (old new : FolderState) (kind : FileKind) (text : List ℕ) : Type 0 where
   pub request : RequestValue
-  pub asked : requested words ≡ Some request
+  pub word : List ℕ
+  pub asked : IsRequest words request
+  pub design : request.source ≡ of_design word
   pub rose : Rose old.read_faults new.read_faults
-  pub at : IfSome old.files (λ files. IsFaultAt files request.design kind old new)
+  pub at : IfSome old.files (λ files. IsFaultAt files word kind old new)
   pub line : text ≡ cannot_read_line kind
 
--- the words have another form
+-- the words ask for nothing
+abbrev pub HasNoRequest : List (List ℕ) → Type 0
+HasNoRequest words = (request : RequestValue) → IsRequest words request → ⊥
+
+-- and this is the line that says so
 pub record IsMisused (words : List (List ℕ)) (text : List ℕ) : Type 0 where
-  pub form : requested words ≡ None
+  pub none : HasNoRequest words
   pub line : text ≡ usage_line
 
 -- the files are as before, and nothing was written
@@ -113,7 +129,7 @@ IsDue Memory words old new line = ⊥
 pub record IsDone (words : List (List ℕ)) (folder folder' : FolderState) (report report' : SinkState) : Type 0 where
   pub placed : PlacedValue
   pub due : IsPlacedAs words folder folder' placed
-  pub file : HasFile (output_name due.request.design) placed.file folder folder'
+  pub file : HasFile due.request.out placed.file folder folder'
   pub got : Appends report.written report'.written placed.report
   pub writes : folder'.write_faults ≡ folder.write_faults
   pub puts : report'.faults ≡ report.faults
@@ -147,7 +163,7 @@ pub data IsUnwritten (name : List ℕ) (placed : PlacedValue) (folder folder' : 
 pub record IsWriteFault (words : List (List ℕ)) (folder folder' : FolderState) (report report' : SinkState) : Type 0 where
   pub placed : PlacedValue
   pub due : IsPlacedAs words folder folder' placed
-  pub unwritten : IsUnwritten (output_name due.request.design) placed folder folder' report report'
+  pub unwritten : IsUnwritten due.request.out placed folder folder' report report'
 
 -- How far what was placed had been put: the output file as before, or with a front of the text, and nothing put to the report; or
 -- with the whole text, and a front of the report.
@@ -161,7 +177,7 @@ pub data IsCutOff (words : List (List ℕ)) (folder folder' : FolderState) (repo
   cut_before : folder'.files ≡ folder.files → report' ≡ report → IsCutOff words folder folder' report report'
   cut_in_line : (status : Status) (line : List ℕ) → IsDue status words folder folder' line → folder'.files ≡ folder.files → GotFront report report' line
       → IsCutOff words folder folder' report report'
-  cut_in_placement : (placed : PlacedValue) (due : IsPlacedAs words folder folder' placed) → IsPutUpTo (output_name due.request.design) placed folder folder' report report'
+  cut_in_placement : (placed : PlacedValue) (due : IsPlacedAs words folder folder' placed) → IsPutUpTo due.request.out placed folder folder' report report'
       → IsCutOff words folder folder' report report'
 
 -- and no write or put failed
@@ -179,16 +195,15 @@ Says (ReadFault kind) words folder folder' report report' = IsReadFault words ki
 Says WriteFault words folder folder' report report' = IsWriteFault words folder folder' report report'
 Says Memory words folder folder' report report' = IsMemory words folder folder' report report'
 
--- The design that the words ask for can be placed: its files have no fault, nor has what they make, each point has a chain, and the
+-- The source that the words ask for can be placed: its texts have no fault, nor has what they make, each point has a chain, and the
 -- greedy rule finds room for each cell.
 pub record IsPlaceable (words : List (List ℕ)) (files : List FileEntry) : Type 0 where
   pub request : RequestValue
-  pub names : AuxEntry
   pub records : Records
   pub design : DesignValue
   pub network : NetworkValue
-  pub asked : requested words ≡ Some request
-  pub accepted : Accepts files request.design names records
+  pub asked : IsRequest words request
+  pub accepted : reads (Some files) request.source (Ok records)
   pub joined : IsJoined records design
   pub wired : IsNetwork design network
   pub chains : (p : ℕ) → p < length network.points → HasChain (joints_of network) p

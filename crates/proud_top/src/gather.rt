@@ -5,7 +5,7 @@ ghost use Rattle.book_files.specs.Entries.{aux_entry};
 ghost use Rattle.book_files.specs.AuxRules.{aux_grammar};
 ghost use Rattle.book_files.specs.Grammar.{IsReading};
 ghost use Rattle.book_files.specs.declared.records.FileKind.TheVariants.{Aux};
-ghost use Rattle.proud_top.specs.Request.{beside, folder_of};
+ghost use Rattle.proud_top.specs.Beside.{beside, folder_of};
 ghost use Rattle.proud_top.specs.Forms.Inputs.{IsSoundText};
 ghost use Rattle.proud_top.specs.Forms.Stops.{Gathers};
 ghost use Rattle.proud_top.specs.Forms.Gathering.{Loads, Looks, IsLook, Follows, FollowsWeights};
@@ -33,7 +33,6 @@ pub(crate) fn gather<F: Folder>(alloc: Global, folder: &mut F, design: &str) -> 
     let pl = text_beside(alloc, folder, FileKind::Pl, design, names.pl)?;
     let scl = text_beside(alloc, folder, FileKind::Scl, design, names.scl)?;
     Ok(Inputs {
-        aux,
         nodes,
         nets,
         wts,
@@ -114,7 +113,7 @@ fn load_kind<F: Folder>(
 }
 
 /// Looks through a text of the kind for its first fault. What it reads as isn't kept.
-fn look(alloc: Global, kind: FileKind, text: &[u8]) -> Result<(), Stop>
+pub(crate) fn look(alloc: Global, kind: FileKind, text: &[u8]) -> Result<(), Stop>
     ensures { Looks kind text.now result }
 {
     one_answer();

@@ -1,4 +1,4 @@
-//! The texts of a design's files.
+//! The texts of a design.
 
 ghost use Rattle.std.specs.Prelude.{◌≡◌, ◌<◌, length, IfOk, IfSome, option_map};
 ghost use Rattle.std.specs.List.{count_by};
@@ -6,23 +6,23 @@ ghost use Rattle.book_files.specs.declared.records.FileKind.TheVariants.{Wts};
 ghost use Rattle.book_files.specs.Entries.{node_entries};
 ghost use Rattle.book_design.specs.Values.{node_values};
 ghost use Rattle.book_design.specs.Points.{is_movable};
-ghost use Rattle.proud_top.specs.Forms.Inputs.{IsSound, IsSameRecords, IsSoundText, AreWeights, AreRecords};
+ghost use Rattle.proud_top.specs.Texts.{AreWeights, AreRecords};
+ghost use Rattle.proud_top.specs.Forms.Inputs.{IsSound, IsSameRecords, IsSoundText};
 ghost use Rattle.proud_top.specs.Forms.Stops.{IsNameAt, IsPointNamed};
 
 use crate::laws::laws;
 use crate::stop::Stop;
 use book_design::{Design, Node, join_design, joined_nodes};
 use book_files::{
-    FileKind, NodeLine, ReadError, WeightFile, read_nets, read_nodes, read_pl, read_scl, read_wts,
+    NodeLine, ReadError, WeightFile, read_nets, read_nodes, read_pl, read_scl, read_wts,
 };
 use book_text::Memory;
 use std::alloc::Global;
 use std::marker::Model;
 
-/// The texts of a design's files, none of which is too long or has a fault.
+/// The texts of a design, none of which is too long or has a fault.
 #[derive(Drop)]
 pub(crate) struct Inputs {
-    pub(crate) aux: Vec<u8>,
     pub(crate) nodes: Vec<u8>,
     pub(crate) nets: Vec<u8>,
     pub(crate) wts: Option<Vec<u8>>,
@@ -32,33 +32,19 @@ pub(crate) struct Inputs {
 
 impl Model for Inputs {
     ghost use Rattle.std.specs.Prelude.{option_map};
-    ghost use Rattle.proud_top.specs.Forms.Inputs.{Texts, AreSound};
+    ghost use Rattle.proud_top.specs.Texts.{Texts};
+    ghost use Rattle.proud_top.specs.Forms.Inputs.{AreSound};
 
     ghost Value = { Texts };
 
-    ghost view = { λ i. record { aux = i.aux.items; nodes = i.nodes.items; nets = i.nets.items; wts = option_map (λ w. w.items) i.wts; pl = i.pl.items; scl = i.scl.items } };
+    ghost view = { λ i. record { nodes = i.nodes.items; nets = i.nets.items; wts = option_map (λ w. w.items) i.wts; pl = i.pl.items; scl = i.scl.items } };
 
-    ghost invariant = { λ i. AreSound (record { aux = i.aux.items; nodes = i.nodes.items; nets = i.nets.items; wts = option_map (λ w. w.items) i.wts; pl = i.pl.items; scl = i.scl.items }) };
+    ghost invariant = { λ i. AreSound (record { nodes = i.nodes.items; nets = i.nets.items; wts = option_map (λ w. w.items) i.wts; pl = i.pl.items; scl = i.scl.items }) };
 }
 
 impl Inputs {
-    ghost use Rattle.proud_top.specs.Forms.Inputs.{text_of};
     ghost use Rattle.proud_top.specs.Named.{IsNodeName, IsPointName};
     ghost use Rattle.proud_top.specs.Forms.Stops.{Designs, HasNode, HasPoint};
-
-    /// The bytes of the file of the kind, where the design has one.
-    pub(crate) fn file(&self, kind: FileKind) -> Option<&[u8]>
-        ensures { option_map (λ bytes. bytes.now) result ≡ text_of self.now kind }
-    {
-        match kind {
-            FileKind::Aux => Some(&self.aux),
-            FileKind::Nodes => Some(&self.nodes),
-            FileKind::Nets => Some(&self.nets),
-            FileKind::Wts => self.wts.as_deref(),
-            FileKind::Pl => Some(&self.pl),
-            FileKind::Scl => Some(&self.scl),
-        }
-    }
 
     /// The design that the texts make, or their first fault.
     pub(crate) fn design(&self, alloc: Global) -> Result<Design<'_>, Stop>

@@ -3,7 +3,7 @@
 ghost use Rattle.std.specs.Prelude.{◌≡◌, ◌++◌, IfOk, IfSome, OnOk, option_map};
 ghost use Rattle.proud_top.specs.Lines.{kind_text, cannot_read_line, line_place, size_cause, count_cause, text_cause, node_cause, row_cause, limit_cause, design_cause, wide_cause, edges_cause, net_cause, room_cause, cause_text, refusal_line};
 ghost use Rattle.proud_top.specs.Named.{node_of, point_of, node_of_fault, point_of_fault, IsNameIn, IsNodeName, IsPointName};
-ghost use Rattle.proud_top.specs.Forms.Inputs.{AreRecords};
+ghost use Rattle.proud_top.specs.Texts.{AreRecords};
 ghost use Rattle.proud_top.specs.Forms.Stops.{AreRecordsOf, HasNode, HasPoint, Covers, CoversStop, IsLineOf};
 
 use crate::inputs::Inputs;

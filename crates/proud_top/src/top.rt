@@ -1,34 +1,36 @@
-ghost use Rattle.std.specs.Prelude.{◌≡◌, ◌⊎◌, ℕ, List, Some, None, Result, option_map};
+ghost use Rattle.std.specs.Prelude.{◌≡◌, ◌⊎◌, ℕ, List, Some, Result, option_map};
 ghost use Rattle.book_outer.specs.Files.{FileEntry};
 ghost use Rattle.book_files.specs.declared.records.FileKind.{FileKind};
 ghost use Rattle.proud_top.specs.declared.status.Refusal.{Refusal};
-ghost use Rattle.proud_top.specs.Request.{RequestValue, requested};
+ghost use Rattle.proud_words.specs.Request.{SourceValue};
 ghost use Rattle.proud_top.specs.Flow.{PlacedValue, places};
-ghost use Rattle.proud_top.specs.Statuses.{Says, IsDone, IsUsage, IsRefused, IsReadFault, IsWriteFault, IsMemory, IsCause, IsPlaceable, AreReadsCalm, AreWritesCalm, ArePutsCalm};
+ghost use Rattle.proud_top.specs.Statuses.{Says, HasNoRequest, IsDone, IsUsage, IsRefused, IsReadFault, IsWriteFault, IsMemory, IsCause, IsPlaceable, AreReadsCalm, AreWritesCalm, ArePutsCalm};
 ghost use Rattle.proud_top.specs.Forms.Stops.{CoversStop, Refuses};
 
 use crate::crew::Crew;
 use crate::deliver::{deliver, put};
-use crate::gather::gather;
 use crate::inputs::Inputs;
 use crate::laws::laws;
 use crate::place::place;
 use crate::refusal::fault_line;
-use crate::request::requested;
+use crate::source::take;
 use crate::status::Status;
 use crate::stop::Stop;
 use book_outer::{Folder, Gate, Sink, Words};
+use proud_words::{WordsFault, one_request, requested};
 use std::alloc::Global;
 use std::thread::Threads;
 
-/// Places the design that the words name, and writes its placement.
+/// Places the design that the words ask for, and writes its placement.
 ///
-/// The words are the program's name, `--levels N` and `--seats N` where a number of levels or of seats is asked for, and the
-/// name of the design's aux file; 4 levels and 4 seats are usual. The output file has the design's name without a final `.aux`,
-/// followed by `.proud.pl`, and may be one of those that were read. It is made only when all is read and placed, and gets a line
-/// `NAME X Y : ORIENT` for each node. The report then gets `cells M terminals T nets N pins P`, `levels L gap G` and `wire D`, or,
-/// where the words, a file or the design is at fault, one line that says so. Both don't depend on the number of seats. The gate is
-/// called in the first sweep of each crew.
+/// Behind the program's name the words are those of `USAGE_LINE`, in the forms of `clap`: the name of a design's aux file, or
+/// `--grid R,C,K` for a design of R rows and C columns of cells, 1 to 64 each, with weights that the number K gives; and, where
+/// they are asked for, a number of levels, a number of seats, and the output file's name. 4 levels and 4 seats are usual. The usual
+/// output file has the design's name without a final `.aux`, followed by `.proud.pl`, or is `grid.proud.pl`; it may be one of those
+/// that were read. It is made only when all is read and placed, and gets a line `NAME X Y : ORIENT` for each node. The report then
+/// gets `cells M terminals T nets N pins P`, `levels L gap G` and `wire D`, or, where the words, a file or the design is at fault, one
+/// line that says so. Both don't depend on the number of seats (`one_placement`). The gate is called in the first sweep of each
+/// crew.
 pub fn proud<R: Threads + Sync, F: Folder, S: Sink, G: Gate>(
     rt: &R,
     alloc: Global,
@@ -51,13 +53,13 @@ pub fn proud<R: Threads + Sync, F: Folder, S: Sink, G: Gate>(
     ensures memory { result ≡ Status.Memory
         → IsMemory words.now (F.state folder.old) (F.state folder.new) (S.state report.old) (S.state report.new) }
 
-    // Where the words have another form, nothing of the folder changes.
-    ensures misused { requested words.now ≡ None
+    // Where the words ask for nothing, nothing of the folder changes.
+    ensures misused { HasNoRequest words.now
         → ((result ≡ Status.Usage) ⊎ (result ≡ Status.Memory)) × (F.state folder.new ≡ F.state folder.old) }
 
     // Where the files are known, the flow has one end at most, and a run without a fault has it.
-    ensures one_end { (files : List FileEntry) (request : RequestValue) (a b : Result PlacedValue Refusal)
-        → places (Some files) request a → places (Some files) request b → a ≡ b }
+    ensures one_end { (files : List FileEntry) (source : SourceValue) (levels : ℕ) (a b : Result PlacedValue Refusal)
+        → places (Some files) source levels a → places (Some files) source levels b → a ≡ b }
     ensures only_refused { (files : List FileEntry) (refusal : Refusal) → (F.state folder.old).files ≡ Some files
         → IsCause words.now (Some files) refusal → AreReadsCalm (F.state folder.old) (F.state folder.new)
         → (result ≡ Status.Refused refusal) ⊎ (result ≡ Status.Memory) }
@@ -67,11 +69,13 @@ pub fn proud<R: Threads + Sync, F: Folder, S: Sink, G: Gate>(
         → (result ≡ Status.Done) ⊎ (result ≡ Status.Memory) }
 {
     laws();
+    one_request();
     run(rt, alloc, words, folder, report, gate)
 }
 
-/// The line that is put where the words have another form.
-const USAGE_LINE: &[u8] = b"usage: proud [--levels N] [--seats N] DESIGN\n";
+/// The line that is put where the words ask for nothing.
+const USAGE_LINE: &[u8] =
+    b"usage: proud [--levels N] [--seats N] [--out FILE] (DESIGN | --grid R,C,K)\n";
 
 /// The run: what touches the outside, step by step.
 fn run<R: Threads + Sync, F: Folder, S: Sink, G: Gate>(
@@ -83,18 +87,20 @@ fn run<R: Threads + Sync, F: Folder, S: Sink, G: Gate>(
     gate: &G,
 ) -> Status
     ensures says { Says result words.now (F.state folder.old) (F.state folder.new) (S.state report.old) (S.state report.new) }
-    ensures misused { requested words.now ≡ None → F.state folder.new ≡ F.state folder.old }
+    ensures misused { HasNoRequest words.now → F.state folder.new ≡ F.state folder.old }
 {
-    let Some(request) = requested(words) else {
-        return put(report, USAGE_LINE, Status::Usage, Status::Usage);
+    let request = match requested(alloc, words) {
+        Ok(request) => request,
+        Err(WordsFault::Usage) => return put(report, USAGE_LINE, Status::Usage, Status::Usage),
+        Err(WordsFault::Memory) => return Status::Memory,
     };
-    let inputs = match gather(alloc, folder, request.design) {
+    let inputs = match take(alloc, folder, &request.source) {
         Ok(inputs) => inputs,
         Err(stop) => return refuse(alloc, report, stop, None),
     };
     let crew = Crew::new(rt, gate, request.seats);
     match place(&crew, alloc, &inputs, request.levels) {
-        Ok(placed) => deliver(alloc, folder, report, request.design, &placed),
+        Ok(placed) => deliver(folder, report, request.out.as_str(), &placed),
         Err(stop) => refuse(alloc, report, stop, Some(&inputs)),
     }
 }

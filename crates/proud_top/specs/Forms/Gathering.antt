@@ -17,7 +17,7 @@ use Rattle.book_files.specs.declared.loading.TheConstants.{MOST_BYTES}
 use Rattle.proud_top.specs.declared.status.Refusal.TheVariants.{TooLong, Text}
 use Rattle.proud_top.specs.declared.stop.Stop.{Stop}
 use Rattle.proud_top.specs.declared.stop.Stop.TheVariants.{ReadFault, Refused, Memory}
-use Rattle.proud_top.specs.Request.{beside}
+use Rattle.proud_top.specs.Beside.{beside}
 use Rattle.proud_top.specs.Order.{rank, name_of, nth_of}
 use Rattle.proud_top.specs.Accepted.{Reads, IsReadable, IsAccepted, IsFaultOf, HasBegun}
 use Rattle.proud_top.specs.Statuses.{IsUntouched}

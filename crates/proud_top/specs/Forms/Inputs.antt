@@ -2,42 +2,20 @@
 use Rattle.std.specs.Prelude.{◌≡◌, ℕ, ◌≤◌, List, length, Option, Some, None, IfSome, Result, Ok, Err}
 use Rattle.book_outer.specs.Files.{FileEntry, content}
 use Rattle.book_files.specs.declared.records.FileKind.{FileKind}
-use Rattle.book_files.specs.declared.records.FileKind.TheVariants.{Aux, Nodes, Nets, Wts, Pl, Scl}
+use Rattle.book_files.specs.declared.records.FileKind.TheVariants.{Nodes, Nets, Wts, Pl, Scl}
 use Rattle.book_files.specs.declared.fault.TextFault.{TextFault}
 use Rattle.book_files.specs.declared.fault.ReadError.{ReadError}
 use Rattle.book_files.specs.declared.fault.ReadError.TheVariants as read_error
 use Rattle.book_text.specs.declared.memory.Memory.{Memory as NoMemory}
-use Rattle.book_files.specs.Entries.{AuxEntry, WeightEntry}
-use Rattle.book_files.specs.Grammar.{IsReading}
+use Rattle.book_files.specs.Entries.{AuxEntry}
 use Rattle.book_files.specs.AuxRules.{aux_grammar}
-use Rattle.book_files.specs.NodeRules.{nodes_grammar}
-use Rattle.book_files.specs.NetRules.{nets_grammar}
-use Rattle.book_files.specs.WeightRules.{weights_grammar}
-use Rattle.book_files.specs.PlaceRules.{places_grammar}
-use Rattle.book_files.specs.RowRules.{rows_grammar}
 use Rattle.book_files.specs.declared.loading.TheConstants.{MOST_BYTES}
 use Rattle.book_design.specs.Records.{Records}
 use Rattle.proud_top.specs.declared.status.Refusal.{Refusal}
-use Rattle.proud_top.specs.Request.{beside}
-use Rattle.proud_top.specs.Accepted.{IsFaultOf}
+use Rattle.proud_top.specs.Beside.{beside}
+use Rattle.proud_top.specs.Accepted.{Reads, IsFaultOf}
+use Rattle.proud_top.specs.Texts.{Texts, AreRecords}
 use Rattle.proud_top.specs.Flow.{◌then◌, PlacedValue, places_records}
-
-pub record Texts : Type 0 where
-  pub aux : List ℕ
-  pub nodes : List ℕ
-  pub nets : List ℕ
-  pub wts : Option (List ℕ)
-  pub pl : List ℕ
-  pub scl : List ℕ
-
--- the text of the kind, where there is one
-abbrev pub text_of : Texts → FileKind → Option (List ℕ)
-text_of texts Aux = Some texts.aux
-text_of texts Nodes = Some texts.nodes
-text_of texts Nets = Some texts.nets
-text_of texts Wts = texts.wts
-text_of texts Pl = Some texts.pl
-text_of texts Scl = Some texts.scl
 
 -- the text of the kind isn't too long and has no fault
 pub record IsSoundText (kind : FileKind) (text : List ℕ) : Type 0 where
@@ -45,7 +23,6 @@ pub record IsSoundText (kind : FileKind) (text : List ℕ) : Type 0 where
   pub clean : (fault : TextFault) → IsFaultOf kind text fault → ⊥
 
 pub record AreSound (texts : Texts) : Type 0 where
-  pub aux : IsSoundText Aux texts.aux
   pub nodes : IsSoundText Nodes texts.nodes
   pub nets : IsSoundText Nets texts.nets
   pub wts : IfSome texts.wts (λ text. IsSoundText Wts text)
@@ -63,20 +40,6 @@ IsSameRecords (Ok records) (Ok same) = same ≡ records
 IsSameRecords (Ok records) (Err memory) = ⊥
 IsSameRecords (Err error) (Ok records) = ⊥
 IsSameRecords (Err error) (Err memory) = Unit {0}
-
-abbrev pub AreWeights : Option (List ℕ) → Option (List WeightEntry) → Type 0
-AreWeights None None = Unit {0}
-AreWeights None (Some weights) = ⊥
-AreWeights (Some text) None = ⊥
-AreWeights (Some text) (Some weights) = IsReading weights_grammar text weights
-
--- the records as which the texts read
-pub record AreRecords (texts : Texts) (records : Records) : Type 0 where
-  pub nodes : IsReading nodes_grammar texts.nodes records.nodes
-  pub nets : IsReading nets_grammar texts.nets records.nets
-  pub weights : AreWeights texts.wts records.weights
-  pub places : IsReading places_grammar texts.pl records.places
-  pub rows : IsReading rows_grammar texts.scl records.rows
 
 -- the step from the texts to their records, which have no fault
 abbrev pub parses : Texts → Result Records Refusal → Type 0
@@ -98,11 +61,10 @@ HoldsWeights files word None (Some text) = ⊥
 HoldsWeights files word (Some name) None = ⊥
 HoldsWeights files word (Some name) (Some text) = Holds files (beside word name) text
 
--- the texts are those of the design's files
+-- the texts are those of the design's files, which its aux file names
 pub record HasTexts (files : List FileEntry) (word : List ℕ) (texts : Texts) : Type 0 where
   pub names : AuxEntry
-  pub aux : Holds files word texts.aux
-  pub named : IsReading aux_grammar texts.aux names
+  pub aux : Reads files word aux_grammar names
   pub nodes : Holds files (beside word names.nodes) texts.nodes
   pub nets : Holds files (beside word names.nets) texts.nets
   pub wts : HoldsWeights files word names.wts texts.wts

@@ -15,12 +15,6 @@ abbrev pub Puts : List ℕ → Status → Status → SinkState → SinkState →
 Puts text done failed old new result = ((result ≡ done) × Appends old.written new.written text × (new.faults ≡ old.faults))
     ⊎ (((result ≡ failed) × Rose old.faults new.faults × GotFront old new text) ⊎ ((result ≡ Memory) × GotFront old new text × (new.faults ≡ old.faults)))
 
--- nothing was read
-pub record ReadsNothing (old new : FolderState) : Type 0 where
-  pub begun : new.begun ≡ old.begun
-  pub missed : new.missed ≡ old.missed
-  pub read_faults : new.read_faults ≡ old.read_faults
-
 -- The file of the name holds the text; or a front of it, or is as before, and then a failed write was counted.
 abbrev pub Writes : List ℕ → List ℕ → FolderState → FolderState → Result (Unit {0}) Trouble → Type 0
 Writes name text old new (Ok done) = HasFile name text old new × (new.write_faults ≡ old.write_faults)

@@ -27,10 +27,11 @@ use Rattle.proud_top.specs.declared.stop.Stop.TheVariants.{ReadFault, Refused, M
 use Rattle.proud_top.specs.Lines.{cannot_read_line, refusal_line}
 use Rattle.proud_top.specs.Accepted.{IsFaultAt}
 use Rattle.proud_top.specs.Placement.{IsLegalText}
-use Rattle.proud_top.specs.Flow.{PlacedValue, reads, joins, last_kind}
+use Rattle.proud_top.specs.Texts.{Texts, AreRecords}
+use Rattle.proud_top.specs.Flow.{PlacedValue, reads_design, joins, last_kind}
 use Rattle.proud_top.specs.Named.{node_of, point_of, IsNameIn}
 use Rattle.proud_top.specs.Statuses.{status_of, HasReadUpTo, IsUntouched}
-use Rattle.proud_top.specs.Forms.Inputs.{Texts, AreRecords, HasTexts, places_texts}
+use Rattle.proud_top.specs.Forms.Inputs.{HasTexts, places_texts}
 use Rattle.proud_top.specs.Forms.Saying.{Puts}
 
 abbrev pub stop_of_join : JoinError → Stop
@@ -56,7 +57,7 @@ pub record IsNameless (refusal : Refusal) : Type 0 where
 
 -- What stopped the reading of the files, and what of the folder has changed. No read fault was counted but at a fault.
 abbrev pub StopsReading : FolderState → FolderState → List ℕ → Stop → Type 0
-StopsReading old new word (Refused refusal) = IsUntouched old new × reads old.files word (Err refusal) × HasReadUpTo (last_kind refusal) word old new × IsNameless refusal
+StopsReading old new word (Refused refusal) = IsUntouched old new × reads_design old.files word (Err refusal) × HasReadUpTo (last_kind refusal) word old new × IsNameless refusal
 StopsReading old new word (ReadFault kind) = IsUntouched old new × Rose old.read_faults new.read_faults × IfSome old.files (λ files. IsFaultAt files word kind old new)
 StopsReading old new word Memory = IsUntouched old new × (new.read_faults ≡ old.read_faults)
 

@@ -3,7 +3,7 @@ use Rattle.std.proofs.lemmas.Result.{err_from_is_err_and}
 use Rattle.book_files.specs.declared.records.FileKind.TheVariants.{Aux, Nodes, Nets, Pl, Scl}
 use Rattle.book_files.specs.Entries.{AuxEntry, aux_entry}
 use Rattle.proud_top.specs.declared.stop.Stop.TheVariants.{Memory}
-use Rattle.proud_top.specs.Request.{beside}
+use Rattle.proud_top.specs.Beside.{beside}
 use Rattle.proud_top.specs.Order.{weight_files}
 use Rattle.proud_top.specs.Forms.Inputs.{IsSoundText}
 use Rattle.proud_top.proofs.Gathering.{first_next, names_are, later_next, weights_below, weights_sound, gathered}
@@ -138,8 +138,7 @@ returns g c =
     let f4 = c.in_ok-pl.ensures old word names files n4 in
     let n5 = later_next old _ word names Scl (beside word names.scl) 5 (suc files) refl refl (let e : 5 + weight_files names.wts ≡ suc (suc (3 + weight_files names.wts)) = omega arith in e) f4.1 is in
     let f5 = c.in_ok-scl.ensures old word names (suc files) n5 in
-    gathered old _ _ _ word names (suc files) c.in_ok-aux.aux.items c.in_ok-nodes.nodes.items c.in_ok-nets.nets.items c.in_ok-pl.pl.items c.in_ok-scl.scl.items c.in_ok-wts.wts c.deref.result.now
-    f0.0 c.deref.ensures.value c.in_ok-names.ensures f1.0 f2.0 f3 f4.0 f5.0 n5 f5.1
+    gathered old _ _ _ word names (suc files) c.in_ok-nodes.nodes.items c.in_ok-nets.nets.items c.in_ok-pl.pl.items c.in_ok-scl.scl.items c.in_ok-wts.wts is f1.0 f2.0 f3 f4.0 f5.0 n5 f5.1
 
 pub names_in-requires : goal.names_in-requires
 names_in-requires g c =
@@ -168,4 +167,4 @@ invariant_of-result g c =
     let f4 = c.in_ok-pl.ensures old word names files n4 in
     let n5 = later_next old _ word names Scl (beside word names.scl) 5 (suc files) refl refl (let e : 5 + weight_files names.wts ≡ suc (suc (3 + weight_files names.wts)) = omega arith in e) f4.1 is in
     let f5 = c.in_ok-scl.ensures old word names (suc files) n5 in
-    record { aux = f0.0.sound; nodes = f1.0.sound; nets = f2.0.sound; wts = weights_sound old _ word names names.wts c.in_ok-wts.wts f3; pl = f4.0.sound; scl = f5.0.sound }
+    record { nodes = f1.0.sound; nets = f2.0.sound; wts = weights_sound old _ word names names.wts c.in_ok-wts.wts f3; pl = f4.0.sound; scl = f5.0.sound }

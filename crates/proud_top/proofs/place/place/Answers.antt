@@ -36,7 +36,7 @@ use Rattle.wire_report.specs.Report.{report_of}
 use Rattle.proud_top.specs.Placement.{corners_of, placement_of}
 use Rattle.proud_top.specs.declared.stop.Stop.{Stop}
 use Rattle.proud_top.specs.declared.stop.Stop.TheVariants.{ReadFault, Refused, Memory}
-use Rattle.proud_top.specs.Forms.Inputs.{Texts}
+use Rattle.proud_top.specs.Texts.{Texts}
 use Rattle.proud_top.specs.Forms.Stops.{stop_of_net, stop_of_reach, stop_of_legal, Designs, Places}
 use Rattle.proud_top.proofs.Placing.{corner_each}
 use Rattle.proud_top.proofs.Points.{over_cells}

@@ -11,7 +11,7 @@ use Rattle.book_design.specs.Records.{Records}
 use Rattle.book_design.specs.declared.fault.JoinError.{JoinError}
 use Rattle.book_design.specs.declared.fault.JoinError.TheVariants as join_error
 use Rattle.book_design.specs.Answers.{Answers as JoinAnswers}
-use Rattle.proud_top.specs.Forms.Inputs.{Texts, AreWeights, AreRecords}
+use Rattle.proud_top.specs.Texts.{Texts, AreWeights, AreRecords}
 use Rattle.proud_top.specs.Forms.Stops.{stop_of_join, Designs}
 use Rattle.proud_top.proofs.Naming.{reads_as}
 use Rattle.proud_top.proofs.inputs.Inputs.design.Goals as goal

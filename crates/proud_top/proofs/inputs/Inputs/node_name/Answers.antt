@@ -3,7 +3,7 @@ use Rattle.std.proofs.lemmas.List.{length-map}
 use Rattle.book_files.specs.Entries.{NodeEntry, node_entries}
 use Rattle.book_files.specs.Grammar.{IsReading}
 use Rattle.book_files.specs.NodeRules.{nodes_grammar}
-use Rattle.proud_top.specs.Forms.Inputs.{Texts}
+use Rattle.proud_top.specs.Texts.{Texts}
 use Rattle.proud_top.proofs.Once.{OneAnswer}
 use Rattle.proud_top.proofs.Naming.{reads_as, node_there, node_named}
 use Rattle.proud_top.proofs.inputs.Inputs.node_name.Goals as goal

@@ -2,7 +2,7 @@ use Rattle.std.proofs.Common.{◌∙◌, ap}
 use Rattle.book_files.specs.NodeRules.{nodes_grammar}
 use Rattle.book_files.specs.PlaceRules.{places_grammar}
 use Rattle.book_design.specs.Values.{node_values}
-use Rattle.proud_top.specs.Forms.Inputs.{Texts}
+use Rattle.proud_top.specs.Texts.{Texts}
 use Rattle.proud_top.proofs.Once.{OneAnswer}
 use Rattle.proud_top.proofs.Naming.{reads_as, point_there, point_named}
 use Rattle.proud_top.proofs.inputs.Inputs.point_name.Goals as goal
