@@ -1,4 +1,0 @@
-UCLA pl 1.0
-a 0 0 : N
-l 0 5 : N /FIXED
-r 10 5 : N /FIXED
