@@ -222,10 +222,12 @@ pub(crate) fn assert_case<R: Threads + Abort + Sync>(
 /// The placement of one cell between two terminals, and its report.
 pub(crate) const MIDDLE: &[u8] = b"UCLA pl 1.0\na 4 0 : N\nl 0 5 : N /FIXED\nr 10 5 : N /FIXED\n";
 
-pub(crate) const MIDDLE_REPORT: &[u8] = b"cells 1 terminals 2 nets 2 pins 4\nlevels 4 gap 0\nwire 10\n";
+pub(crate) const MIDDLE_REPORT: &[u8] =
+    b"cells 1 terminals 2 nets 2 pins 4\nlevels 4 gap 0\nwire 10\n";
 
 /// The line for words of another form.
-pub(crate) const USAGE: &[u8] = b"usage: proud [--levels N] [--seats N] [--out FILE] (DESIGN | --grid R,C,K)\n";
+pub(crate) const USAGE: &[u8] =
+    b"usage: proud [--levels N] [--seats N] [--out FILE] (DESIGN | --grid R,C,K)\n";
 
 /// A run without a word behind the program's name.
 pub(crate) const NO_WORDS: Case = Case {

@@ -293,24 +293,24 @@ pub gathered : (old mid now new : FolderState) (word : List ℕ) (names : AuxEnt
     → IsNext old now word names Scl (beside word names.scl) m → HasReadBelow old new word names 6 (suc m)
     → Gathers old new word (Ok (record { nodes = nodes; nets = nets; wts = texts_of wts; pl = pl; scl = scl }))
 gathered old mid now new word names m nodes nets pl scl wts are nodes_text nets_text weights pl_text scl_text n h = (
-    h.untouched,
-    known old.files (λ files e. record {
-      names = names;
-      aux = get _ old.files files e are;
-      nodes = holds old files Nodes (beside word names.nodes) nodes e nodes_text;
-      nets = holds old files Nets (beside word names.nets) nets e nets_text;
-      wts = weights_held old mid files word names names.wts wts e weights;
-      pl = holds old files Pl (beside word names.pl) pl e pl_text;
-      scl = holds old files Scl (beside word names.scl) scl e scl_text;
-    }),
-    record {
-      begun = known old.files (λ files e. record {
-        name = beside word names.scl;
-        nth = suc m;
-        next = next_file old now word names Scl (beside word names.scl) m files e n;
-        begun = h.begun;
-        present = get _ old.files files e h.missed;
-      });
-      reads = h.read_faults;
-    },
-    )
+  h.untouched,
+  known old.files (λ files e. record {
+    names = names;
+    aux = get _ old.files files e are;
+    nodes = holds old files Nodes (beside word names.nodes) nodes e nodes_text;
+    nets = holds old files Nets (beside word names.nets) nets e nets_text;
+    wts = weights_held old mid files word names names.wts wts e weights;
+    pl = holds old files Pl (beside word names.pl) pl e pl_text;
+    scl = holds old files Scl (beside word names.scl) scl e scl_text;
+  }),
+  record {
+    begun = known old.files (λ files e. record {
+      name = beside word names.scl;
+      nth = suc m;
+      next = next_file old now word names Scl (beside word names.scl) m files e n;
+      begun = h.begun;
+      present = get _ old.files files e h.missed;
+    });
+    reads = h.read_faults;
+  },
+)
