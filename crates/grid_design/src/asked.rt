@@ -1,6 +1,6 @@
 //! The grid that a word asks for.
 
-ghost use Rattle.std.specs.Prelude.{◌≡◌, ◌<◌, ◌^◌, ◌≤◌, List, ℕ, MatchOption, decimal};
+ghost use Rattle.std.specs.Prelude.{◌≡◌, ◌<◌, ◌^◌, ◌≤◌, ◌↔◌, List, ℕ, IsTrue, MatchOption, decimal};
 ghost use Rattle.grid_design.specs.declared.asked.Grid.{Grid};
 ghost use Rattle.grid_design.specs.Asked.{IsSide, IsGridWord};
 
@@ -52,12 +52,19 @@ fn read_decimal(word: &str) -> Option<u64>
     ensures { MatchOption result ((number : ℕ) → number < 2 ^ 64 → word.now ≡ decimal number → ⊥) (λ number. (number < 2 ^ 64) × (word.now ≡ decimal number)) }
 {
     let number = word.parse::<u64>().ok()?;
-    let mut buffer = Buffer::new();
-    if buffer.format(number) == word {
+    if is_decimal_of(number, word) {
         Some(number)
     } else {
         None
     }
+}
+
+/// Whether the word is the decimal of the number.
+fn is_decimal_of(number: u64, word: &str) -> bool
+    ensures { IsTrue result ↔ (word.now ≡ decimal number) }
+{
+    let mut buffer = Buffer::new();
+    buffer.format(number) == word
 }
 
 /// A law: a word asks for one grid at most.
