@@ -1,10 +1,11 @@
 -- The extent of the pins that a walk has passed.
-use Rattle.std.proofs.Common.{◌≡◌, ℕ, ◌+◌, ◌<◌, ◌≤◌, List, [], ◌∷◌, ◌++◌, length, get_or, take, drop, map, ℤ, nat_abs, ◌≤ℤ◌, ◌-ℤ◌, ◌∙◌, ap, subst, sym, rules, arith, w64, to_z, of_z}
+use Rattle.std.proofs.Common.{◌≡◌, ℕ, ◌+◌, ◌<◌, ◌≤◌, List, [], ◌∷◌, ◌++◌, length, get_or, take, drop, map, ℤ, nat_abs, ◌≤ℤ◌, ◌-ℤ◌, ◌∙◌, ap, subst, sym, rules, All, arith, w64, to_z, of_z}
 use Rattle.std.specs.Int.{int_max, int_min}
 use Rattle.std.specs.List.{fold}
 use mir.Val.{SFits}
 use Rattle.std.proofs.lemmas.Int.{ints, clamps, to_z-of_z}
 use Rattle.std.proofs.lemmas.List.{map_more}
+use Rattle.std.proofs.lemmas.List.Elements.{All-take, All-drop}
 use Rattle.std.proofs.lemmas.List.Sums.{fold_push}
 use Rattle.wire_report.specs.declared.extent.Extent.{Extent}
 use Rattle.wire_report.specs.Wire.{greatest, least, spread}
@@ -75,3 +76,7 @@ whole_spread f (x ∷ xs) d z extent some is h =
     let high : extent.greatest ≡ fold int_max (f x) (map f xs) = h.greatest ∙ ap (λ (a : ℤ). fold int_max a (map f xs)) is in
     let low : extent.least ≡ fold int_min (f x) (map f xs) = h.least ∙ ap (λ (a : ℤ). fold int_min a (map f xs)) is in
     ap (λ (a : ℤ). nat_abs (a -ℤ extent.least)) high ∙ ap (λ (b : ℤ). nat_abs (fold int_max (f x) (map f xs) -ℤ b)) low
+
+-- what holds of all items holds of those of a part
+pub part_of : {A : Type 0} (P : A → Type 0) (xs : List A) → All P xs → (k : ℕ) (d : A) (from many : ℕ) → k < length (take many (drop from xs)) → P (get_or (take many (drop from xs)) k d)
+part_of P xs all k d from many there = All-take P many (drop from xs) (All-drop P from xs all) k d there
