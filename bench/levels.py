@@ -52,16 +52,17 @@ class Design:
                 self.cells.append(name)
 
     def read_nets(self, lines, weights):
-        """A net is its weight and, for each of its nodes, the offset of the node's first pin."""
-        self.nets, self.pins = [], 0
+        """A net is its weight and, for each of its nodes, the offset of the node's first pin. Beside it stand all of its pins."""
+        self.nets, self.all_pins = [], []
         for line in lines:
             if line[0].lower() == "netdegree":
                 pins = {}
                 self.nets.append((weights.get(line[2], 1) if len(line) > 2 else 1, pins))
+                self.all_pins.append([])
             else:
                 offset = (micro(line[2]), micro(line[3])) if len(line) > 2 else (0, 0)
                 pins.setdefault(line[0], offset)
-                self.pins += 1
+                self.all_pins[-1].append((line[0], offset))
 
     def read_rows(self, lines):
         subrows = []
@@ -255,6 +256,17 @@ def placement(design, places):
         yield f"{name} {decimal(x)} {decimal(y)} : {design.orient[name]}" + (" /FIXED" if name in design.fixed else "")
 
 
+def wire_length(design, places):
+    """The width plus the height of the smallest rectangle around each net's pins, together."""
+    corner = {**design.corner, **places}
+    total = 0
+    for net in design.all_pins:
+        for axis in (0, 1):
+            at = [corner[name][axis] + design.size[name][axis] // 2 + offset[axis] for name, offset in net]
+            total += max(at, default=0) - min(at, default=0)
+    return total
+
+
 def spread(found):
     """How far two entries stand apart at most."""
     return max((upper - lower for solved in found for pair in solved for lower, upper in zip(*pair)), default=0)
@@ -274,8 +286,10 @@ def answer(aux, number):
     except NoRoom as fault:
         cell, sites, largest = fault.args
         return 2, text([f"proud: node {design.cells[cell]}: no room for {sites} sites, {largest} left"]), None
-    counts = f"cells {len(design.cells)} terminals {len(design.fixed)} nets {len(design.nets)} pins {design.pins}"
-    return 0, text([counts, f"levels {number} gap {spread(found)}"]), text(placement(design, places))
+    pins = sum(map(len, design.all_pins))
+    counts = f"cells {len(design.cells)} terminals {len(design.fixed)} nets {len(design.nets)} pins {pins}"
+    wire = f"wire {decimal(wire_length(design, places))}"
+    return 0, text([counts, f"levels {number} gap {spread(found)}", wire]), text(placement(design, places))
 
 
 def main():

@@ -9,6 +9,9 @@ two to five pins, which stand off their nodes' middles. There are pads at both e
 above, each in a net with the cell beside it; each macro is in a net with a cell at each of its sides. Every third net has a
 weight of 1 to 4. SEED, by default 1, is where the numbers without a pattern begin.
 
+END `row` gives a design of COUNT subrows, 8 sites each, side by side in one row, under a fiftieth as many fixed blocks that are as
+high as the row, with as many cells, 1 wide, in a chain between two pads.
+
 END `wide` and `apart` give designs of COUNT nodes and as many nets of four pins, which are refused: `wide` at its first net,
 which has 513 nodes, and so behind the join; `apart` at its last node, which is in no net, and so behind the search for pads.
 """
@@ -24,11 +27,12 @@ def put(kind, lines):
         file.write("\n".join(lines) + "\n")
 
 
-def rows_of(rows, height, sites):
+def rows_of(rows, height, sites, origins=(0,)):
     lines = ["UCLA scl 1.0", f"NumRows : {rows}"]
+    subrows = [f" SubrowOrigin : {x} NumSites : {sites}" for x in origins]
     for r in range(rows):
         lines.extend(["CoreRow Horizontal", f" Coordinate : {height * r}", f" Height : {height}", " Sitewidth : 1",
-                      " Sitespacing : 1", " Siteorient : 1", " Sitesymmetry : 1", f" SubrowOrigin : 0 NumSites : {sites}", "End"])
+                      " Sitespacing : 1", " Siteorient : 1", " Sitesymmetry : 1", *subrows, "End"])
     return lines
 
 
@@ -135,9 +139,26 @@ def local():
     put("scl", rows_of(core.rows, 10, width))
 
 
+def one_row():
+    """Subrows side by side under many fixed blocks."""
+    numbers, blocks = random.Random(seed), count // 50
+    put("nodes", ["UCLA nodes 1.0", f"NumNodes : {count + blocks + 2}", f"NumTerminals : {blocks + 2}"]
+        + [f"o{i} 1 10" for i in range(count)]
+        + [f"b{k} {8 + numbers.getrandbits(4)} 10 terminal" for k in range(blocks)] + ["l 0 0 terminal", "r 0 0 terminal"])
+    chain = ["l", *(f"o{i}" for i in range(count)), "r"]
+    put("nets", ["UCLA nets 1.0", f"NumNets : {count + 1}", f"NumPins : {2 * count + 2}"]
+        + [line for k in range(count + 1) for line in (f"NetDegree : 2 n{k}", f"{chain[k]} B", f"{chain[k + 1]} B")])
+    put("wts", ["UCLA wts 1.0"])
+    put("pl", ["UCLA pl 1.0"] + [f"o{i} {8 * i + numbers.getrandbits(5) - 16} 0 : N" for i in range(count)]
+        + [f"b{k} {int(8 * count * numbers.random())} 0 : N" for k in range(blocks)] + ["l 0 5 : N", f"r {8 * count} 5 : N"])
+    put("scl", rows_of(1, 10, 8, range(0, 8 * count, 8)))
+
+
 OFFSETS = [offset(bits) for bits in range(8)]
 put("aux", ["RowBasedPlacement : d.nodes d.nets d.wts d.pl d.scl"])
 if end == "local":
     local()
+elif end == "row":
+    one_row()
 else:
     refused()
