@@ -66,6 +66,11 @@ FORMS: Dict[int, Pattern[bytes]] = {
 }
 
 
+def refusal_of(printed: bytes) -> Optional[str]:
+    """The line of the table that a refusal has the form of."""
+    return next((line for line in TABLE[2] if re.fullmatch(form([line]).encode(), printed)), None)
+
+
 def files_of(folder: str) -> Files:
     """All that stands in a folder: the bytes of each file, and of what is no file what it is."""
     found: Files = {}

@@ -258,7 +258,9 @@ def read_names(aux: str) -> Dict[str, str]:
             raise Fault(f"{aux}:{number}: bad line")
         for name in words[2:]:
             kind = name.rpartition(".")[2].lower()
-            if kind not in KINDS or "." not in name or kind in files:
+            # A name is UTF-8, and no file's name has a NUL.
+            named = not any(c == "\0" or "\udc80" <= c <= "\udcff" for c in name)
+            if kind not in KINDS or "." not in name or kind in files or not named:
                 raise Fault(f"{aux}:{number}: {name} isn't a file of a design, or one too many")
             files[kind] = os.path.join(os.path.dirname(aux), name)
     for kind in KINDS:

@@ -88,6 +88,14 @@ class Designs(Case):
                 self.assertIn(told, str(caught.exception))
                 self.write("chip/chip." + ending, before)
 
+    def test_a_file_name_with_a_nul_or_that_is_not_utf_8_is_refused(self):
+        aux = self.chip()
+        for name in (b"\0.scl", b"\xff.scl"):
+            with open(aux, "wb") as file:
+                file.write(b"RowBasedPlacement : chip.nodes chip.nets chip.pl " + name + b"\n")
+            with self.assertRaisesRegex(Fault, "chip.aux:1: .*isn't a file of a design"):
+                read_design(aux)
+
     def test_a_placement_of_another_design_is_refused(self):
         aux = self.chip()
         self.write("other.pl", PLACED + "g9 0 0 : N\n")
