@@ -15,7 +15,8 @@ TOP = os.path.dirname(os.path.dirname(os.path.abspath(__file__)))
 OLD_USAGE = b"usage: proud [--levels N] [--seats N] DESIGN\n"
 WHOLE = "(?:0|[1-9][0-9]*)"
 # What stands for a word in capitals. Any other is a whole number.
-WORDS = {"KIND": "(?:aux|nodes|nets|wts|pl|scl)", "LINE": "[1-9][0-9]*", "NAME": "[^ \t\r\n]+", "D": WHOLE + r"(?:\.[0-9]{0,5}[1-9])?"}
+WORDS = {"KIND": "(?:aux|nodes|nets|wts|pl|scl)", "LINE": "[1-9][0-9]*", "NAME": "[^ \t\r\n]+",
+         "D": WHOLE + r"(?:\.[0-9]{0,5}[1-9])?"}
 
 Files = Dict[str, Union[bytes, str]]
 
@@ -33,6 +34,12 @@ class Due(NamedTuple):
 
     report: bytes
     placement: bytes
+
+
+def program() -> str:
+    """The program that the gate has built here, and bin/proud where there is none."""
+    built = os.path.join(TOP, "crates", "proud_cli", "out", "proud_cli")
+    return built if os.access(built, os.X_OK) else os.path.join(TOP, "bin", "proud")
 
 
 def table() -> Dict[int, List[str]]:
@@ -78,8 +85,11 @@ def files_of(folder: str) -> Files:
         if entry.is_symlink():
             found[entry.name] = "a link to " + os.readlink(entry.path)
         elif entry.is_file():
-            with open(entry.path, "rb") as file:
-                found[entry.name] = file.read()
+            try:
+                with open(entry.path, "rb") as file:
+                    found[entry.name] = file.read()
+            except PermissionError:
+                found[entry.name] = "may not be read"
         else:
             found[entry.name] = stat.filemode(entry.stat().st_mode)
             if entry.is_dir():
@@ -87,10 +97,10 @@ def files_of(folder: str) -> Files:
     return found
 
 
-def start(words: Sequence[Union[str, bytes]], seconds: float, output: Any = subprocess.PIPE,
-          before: Optional[Callable[[], None]] = None, folder: Optional[str] = None) -> Run:
+def start(words: Sequence[str], seconds: float, stdout: Any = subprocess.PIPE, before: Optional[Callable[[], None]] = None,
+          folder: Optional[str] = None) -> Run:
     """Runs a command, and ends it when it takes longer; `before` is called in its process first."""
-    with subprocess.Popen(words, stdin=subprocess.DEVNULL, stdout=output, stderr=subprocess.PIPE, preexec_fn=before,
+    with subprocess.Popen(words, stdin=subprocess.DEVNULL, stdout=stdout, stderr=subprocess.PIPE, preexec_fn=before,
                           cwd=folder) as process:
         try:
             printed, complained = process.communicate(timeout=seconds)

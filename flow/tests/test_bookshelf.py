@@ -77,6 +77,7 @@ class Designs(Case):
                 ("scl", "  Height : 10", "  Height : 0", "chip.scl:5: bad number 0"),
                 ("scl", "  Sitespacing : 2", "  Sitespacing : 3", "rows of several heights or pitches"),
                 ("scl", "NumSites : 10", "NumSites : ten", "bad line"),
+                ("scl", "NumSites : 10", "NumSites : 1099511627777", "bad line"),
                 ("aux", "chip.scl", "chip.xyz", "chip.aux:1: chip.xyz isn't a file of a design"),
                 ("aux", " chip.scl", "", "no .scl file is named")):
             with self.subTest(told):
