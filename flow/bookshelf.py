@@ -45,6 +45,11 @@ def micro(word: str) -> int:
     return -value if sign == "-" else value
 
 
+def is_whole(word: str) -> bool:
+    """Whether it is a whole word: a count, or how many sites there are."""
+    return WHOLE.fullmatch(word) is not None and int(word) <= 1 << 40
+
+
 @functools.lru_cache(maxsize=1 << 17)
 def decimal(millionths: int) -> str:
     """The canonical decimal of a number of millionths."""
@@ -226,7 +231,7 @@ class Counts:
         key = words[0].lower()
         if words[1:2] != [":"] or key not in self.keywords:
             return False
-        if len(words) != 3 or not WHOLE.fullmatch(words[2]) or key in self.stated:
+        if len(words) != 3 or not is_whole(words[2]) or key in self.stated:
             raise Fault(f"{self.path}:{number}: bad line")
         self.stated[key] = int(words[2])
         return True
@@ -258,7 +263,9 @@ def read_names(aux: str) -> Dict[str, str]:
             raise Fault(f"{aux}:{number}: bad line")
         for name in words[2:]:
             kind = name.rpartition(".")[2].lower()
-            if kind not in KINDS or "." not in name or kind in files:
+            # A name is UTF-8, and no file's name has a NUL.
+            named = not any(c == "\0" or "\udc80" <= c <= "\udcff" for c in name)
+            if kind not in KINDS or "." not in name or kind in files or not named:
                 raise Fault(f"{aux}:{number}: {name} isn't a file of a design, or one too many")
             files[kind] = os.path.join(os.path.dirname(aux), name)
     for kind in KINDS:
@@ -294,7 +301,7 @@ def read_nets(path: str, number_of: Dict[str, int]) -> Nets:
         if words[1:2] == [":"] and (words[0].lower() == "netdegree" or counts.take(number, words)):
             if words[0].lower() == "netdegree":
                 check_degree(path, number, nets, degree)
-                if len(words) not in (3, 4) or not WHOLE.fullmatch(words[2]):
+                if len(words) not in (3, 4) or not is_whole(words[2]):
                     raise Fault(f"{path}:{number}: bad line")
                 degree = int(words[2])
                 nets.names.append(words[3] if len(words) == 4 else "")
@@ -384,7 +391,7 @@ def read_rows(path: str) -> Rows:
 
 
 def subrow_of(path: str, number: int, words: List[str]) -> Subrow:
-    if len(words) != 6 or words[1] != ":" or words[3].lower() != "numsites" or words[4] != ":" or not WHOLE.fullmatch(words[5]):
+    if len(words) != 6 or words[1] != ":" or words[3].lower() != "numsites" or words[4] != ":" or not is_whole(words[5]):
         raise Fault(f"{path}:{number}: bad line")
     return Subrow(numbers(path, number, words[2])[0], 0, int(words[5]))
 

@@ -77,6 +77,7 @@ class Designs(Case):
                 ("scl", "  Height : 10", "  Height : 0", "chip.scl:5: bad number 0"),
                 ("scl", "  Sitespacing : 2", "  Sitespacing : 3", "rows of several heights or pitches"),
                 ("scl", "NumSites : 10", "NumSites : ten", "bad line"),
+                ("scl", "NumSites : 10", "NumSites : 1099511627777", "bad line"),
                 ("aux", "chip.scl", "chip.xyz", "chip.aux:1: chip.xyz isn't a file of a design"),
                 ("aux", " chip.scl", "", "no .scl file is named")):
             with self.subTest(told):
@@ -87,6 +88,14 @@ class Designs(Case):
                     read_design(aux)
                 self.assertIn(told, str(caught.exception))
                 self.write("chip/chip." + ending, before)
+
+    def test_a_file_name_with_a_nul_or_that_is_not_utf_8_is_refused(self):
+        aux = self.chip()
+        for name in (b"\0.scl", b"\xff.scl"):
+            with open(aux, "wb") as file:
+                file.write(b"RowBasedPlacement : chip.nodes chip.nets chip.pl " + name + b"\n")
+            with self.assertRaisesRegex(Fault, "chip.aux:1: .*isn't a file of a design"):
+                read_design(aux)
 
     def test_a_placement_of_another_design_is_refused(self):
         aux = self.chip()
