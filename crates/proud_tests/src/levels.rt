@@ -23,7 +23,7 @@ const APART: &[u8] = b"UCLA pl 1.0\na 2 0 : N\nb 7 0 : N\nl 0 5 : N /FIXED\nr 10
 const ROWS: &[u8] = b"UCLA pl 1.0\nu 6 12 : N\nv 14 24 : N\n\
     m 14 0 : N /FIXED\ni -1 18 : N /FIXED\nq 20 30 : N /FIXED\n";
 
-const RUNS: [Run; 9] = [
+const RUNS: [Run; 10] = [
     (
         &["proud", "--levels", "4", "a.aux"],
         ONE_CELL,
@@ -38,6 +38,12 @@ const RUNS: [Run; 9] = [
     ),
     (
         &["proud", "--levels", "0", "a.aux"],
+        TWO_CELLS,
+        NEAR,
+        b"cells 2 terminals 2 nets 3 pins 6\nlevels 0 gap 2\nwire 10\n",
+    ),
+    (
+        &["proud", "--levels", "0", "--seats", "7", "a.aux"],
         TWO_CELLS,
         NEAR,
         b"cells 2 terminals 2 nets 3 pins 6\nlevels 0 gap 2\nwire 10\n",

@@ -22,4 +22,14 @@ fn limits_are_those_of_the_rules(rt: HostRuntime) {
     assert_eq!(rt; relax_system::MOST_WEIGHT, 1 << 40);
     assert_eq!(rt; relax_crew::MOST_SEATS, 64);
     assert_eq!(rt; level_run::MOST_LEVELS, 12);
+    assert_eq!(rt; proud_words::USUAL_LEVELS, 4);
+    assert_eq!(rt; proud_words::USUAL_SEATS, 4);
+    assert_eq!(rt; grid_design::MOST_SIDE, 64);
+    assert_eq!(rt; grid_design::CELL_WIDTH, 2);
+    assert_eq!(rt; grid_design::ROW_HEIGHT, 10);
+    assert_eq!(rt; grid_design::COLUMN_SITES, 4);
+    assert_eq!(rt; grid_design::MULTIPLIER, 6_364_136_223_846_793_005);
+    assert_eq!(rt; grid_design::INCREMENT, 1_442_695_040_888_963_407);
+    assert_eq!(rt; grid_design::SPREAD, 1 << 33);
+    assert_eq!(rt; grid_design::WEIGHTS, 4);
 }

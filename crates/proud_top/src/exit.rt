@@ -13,8 +13,8 @@ use std::thread::Threads;
 /// The exit status of the program: that of the run on the words, or that of want of memory where there wasn't enough for
 /// the words.
 ///
-/// It is 0 for a run that is done, 1 for words of another form, 2 for a refusal, 3 for a file that can't be read, 4 for a
-/// report that can't be written, and 5 for want of memory.
+/// It is 0 for a run that is done, 1 for words that ask for nothing, 2 for a refusal, 3 for a file that can't be read, 4 for an
+/// output file or a report that can't be written, and 5 for want of memory.
 pub fn exit_code<R: Threads + Sync, F: Folder, S: Sink, G: Gate>(
     rt: &R,
     alloc: Global,

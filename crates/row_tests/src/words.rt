@@ -48,7 +48,7 @@ const GRIDS: [(&str, u32, usize, &str, u32, u32, u64); 3] = [
 ];
 
 /// Words that ask for nothing.
-const REFUSED: [&str; 27] = [
+const REFUSED: [&str; 28] = [
     "",
     "--seats 0 a.aux",
     "--seats 65 a.aux",
@@ -68,6 +68,7 @@ const REFUSED: [&str; 27] = [
     "--out",
     "--out b.pl",
     "--help",
+    "--help=x a.aux",
     "-h",
     "help --levels",
     "--version a.aux",

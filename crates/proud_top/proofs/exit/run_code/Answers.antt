@@ -8,4 +8,7 @@ returns g c =
       status = c.proud.result;
       says = said_of c.args.words.now _ _ _ _ c.proud.result said.done said.usage said.refused said.read_fault said.write_fault said.memory;
       coded = c.code.ensures;
+      misused = said.misused;
+      only_refused = said.only_refused;
+      complete = said.complete;
     }
