@@ -1,6 +1,7 @@
 //! Wire lengths of small designs, worked by hand, and the text of a report.
 
 ghost use Rattle.std.specs.Prelude.{All, IsTrue};
+ghost use Rattle.book_text.specs.Coordinates.{IsMicro};
 ghost use Rattle.wire_report.specs.Wire.{IsNearCorner};
 
 use book_design::{Design, JoinError, join_design};
@@ -161,12 +162,19 @@ fn join(rt: &impl Abort, alloc: Global, case: &Case) -> Result<Design<'static>, 
 fn are_near(corners: &[Corner]) -> bool
     ensures { IsTrue result → All IsNearCorner corners.now }
 {
-    for corner in corners {
-        if corner.x < -FAR || FAR < corner.x || corner.y < -FAR || FAR < corner.y {
-            return false;
-        }
-    }
-    true
+    corners.iter().all(is_near)
+}
+
+fn is_near(corner: &Corner) -> bool
+    ensures { IsTrue result → IsNearCorner corner.now }
+{
+    is_within(corner.x) && is_within(corner.y)
+}
+
+fn is_within(z: i64) -> bool
+    ensures { IsTrue result → IsMicro z }
+{
+    -FAR <= z && z <= FAR
 }
 
 #[test]
