@@ -31,26 +31,26 @@ fn run_of<R: Threads + Abort + Sync>(
     Ok(Run { folder, report })
 }
 
-/// A grid, numbers of seats, and what its report begins with.
+/// A grid, numbers of seats besides one, and what its report begins with.
 const GRIDS: [(&str, &[&str], &[u8]); 4] = [
     (
         "1,1,0",
-        &["1", "2"],
+        &["2"],
         b"cells 1 terminals 4 nets 4 pins 8\nlevels 4 gap ",
     ),
     (
         "2,3,1",
-        &["1", "4"],
+        &["4"],
         b"cells 6 terminals 10 nets 17 pins 34\nlevels 4 gap ",
     ),
     (
         "12,12,5",
-        &["1", "7", "64"],
+        &["7", "64"],
         b"cells 144 terminals 48 nets 312 pins 624\nlevels 4 gap ",
     ),
     (
         "30,30,7",
-        &["1", "64"],
+        &["64"],
         b"cells 900 terminals 120 nets 1860 pins 3720\nlevels 4 gap ",
     ),
 ];
@@ -58,11 +58,11 @@ const GRIDS: [(&str, &[&str], &[u8]); 4] = [
 #[test]
 fn grids_are_placed_once_for_all_seats(rt: HostRuntime) -> Result<(), Fail> {
     for (grid, seats, begin) in GRIDS {
-        let first = run_of(&rt, rt.alloc(), grid, seats[0])?;
+        let first = run_of(&rt, rt.alloc(), grid, "1")?;
         let file = first.folder.file("grid.proud.pl");
         assert!(rt; file.is_some());
         assert!(rt; first.report.written().starts_with(begin));
-        for number in &seats[1..] {
+        for number in seats {
             let other = run_of(&rt, rt.alloc(), grid, number)?;
             assert!(rt; other.folder.file("grid.proud.pl") == file);
             assert!(rt; other.report.written() == first.report.written());
