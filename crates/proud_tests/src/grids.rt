@@ -55,18 +55,30 @@ const GRIDS: [(&str, &[&str], &[u8]); 4] = [
     ),
 ];
 
+/// The grid's report begins so, and with each number of seats it has the report and the placement that it has with one.
+fn assert_once<R: Threads + Abort + Sync>(
+    rt: &R,
+    alloc: Global,
+    grid: &str,
+    seats: &[&str],
+    begin: &[u8],
+) -> Result<(), Memory> {
+    let first = run_of(rt, alloc, grid, "1")?;
+    let file = first.folder.file("grid.proud.pl");
+    assert!(rt; file.is_some());
+    assert!(rt; first.report.written().starts_with(begin));
+    for number in seats {
+        let other = run_of(rt, alloc, grid, number)?;
+        assert!(rt; other.folder.file("grid.proud.pl") == file);
+        assert!(rt; other.report.written() == first.report.written());
+    }
+    Ok(())
+}
+
 #[test]
 fn grids_are_placed_once_for_all_seats(rt: HostRuntime) -> Result<(), Fail> {
     for (grid, seats, begin) in GRIDS {
-        let first = run_of(&rt, rt.alloc(), grid, "1")?;
-        let file = first.folder.file("grid.proud.pl");
-        assert!(rt; file.is_some());
-        assert!(rt; first.report.written().starts_with(begin));
-        for number in seats {
-            let other = run_of(&rt, rt.alloc(), grid, number)?;
-            assert!(rt; other.folder.file("grid.proud.pl") == file);
-            assert!(rt; other.report.written() == first.report.written());
-        }
+        assert_once(&rt, rt.alloc(), grid, seats, begin)?;
     }
     Ok(())
 }
