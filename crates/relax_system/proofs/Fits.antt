@@ -9,7 +9,7 @@ use Rattle.relax_system.specs.declared.valid.TheConstants.{MOST_COORDINATE}
 use Rattle.relax_system.specs.System.{total_weight, point_at, IsValid}
 use Rattle.relax_system.specs.Means.{InBoxes, pull}
 use Rattle.relax_system.specs.Sides.{mean_of}
-use Rattle.relax_system.specs.Forms.Rounding.{rounded}
+use Rattle.relax_system.specs.Rounding.{rounded}
 use Rattle.relax_system.specs.Forms.Narrow.{IsNarrow}
 use Rattle.relax_system.proofs.Pulls.{pull-high}
 

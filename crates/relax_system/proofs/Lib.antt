@@ -1,6 +1,8 @@
 pub mod Division
 pub mod Pulls
 pub mod SideMeans
+pub mod Ways
+pub mod Distances
 pub mod Climbing
 pub mod Extremes
 pub mod Maximum

@@ -12,7 +12,7 @@ use Rattle.relax_system.specs.System.{total_weight, point_at, no_point, IsValid}
 use Rattle.relax_system.specs.Means.{InBoxes, pull}
 use Rattle.relax_system.specs.Forms.Narrow.{IsNarrow}
 use Rattle.relax_system.specs.Sides.{mean_of}
-use Rattle.relax_system.specs.Forms.Rounding.{rounded}
+use Rattle.relax_system.specs.Rounding.{rounded}
 use Rattle.relax_system.specs.Forms.Flat.{near_numbers, near_weights, numbers_of, weights_of, dot, IsFlat, IsSoundRow}
 use Rattle.relax_system.proofs.Dots.{dot-near}
 use Rattle.relax_system.proofs.Fits.{pull_light, pull_narrow, rounded-pull}

@@ -1,4 +1,3 @@
 pub mod Narrow
 pub mod Flat
 pub mod Way
-pub mod Rounding

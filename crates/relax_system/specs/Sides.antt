@@ -1,5 +1,6 @@
 -- Both sides at once: from below with rounded-down means, and from above with rounded-up means.
-use Rattle.std.specs.Prelude.{ℕ, ◌<◌, ◌≤◌, List, length, slice_index, map}
+use Rattle.std.specs.Prelude.{ℕ, ◌-◌, ◌<◌, ◌≤◌, List, length, slice_index, map, sum_by, max, min}
+use Rattle.std.specs.List.{zip}
 use Rattle.relax_system.specs.declared.side.Side.{Side}
 use Rattle.relax_system.specs.declared.side.Side.TheVariants.{Floor, Ceil}
 use Rattle.relax_system.specs.declared.points.Point.{Point}
@@ -9,6 +10,20 @@ use Rattle.relax_system.specs.Means.{floor_mean, ceil_mean, InBoxes}
 abbrev pub Before : Side → ℕ → ℕ → Type 0
 Before Floor a b = a ≤ b
 Before Ceil a b = b ≤ a
+
+-- of two coordinates the one that stands further on the way
+abbrev pub further_of : Side → ℕ → ℕ → ℕ
+further_of Floor a b = max a b
+further_of Ceil a b = min a b
+
+-- how far the way leads from a to b
+abbrev pub apart : Side → ℕ → ℕ → ℕ
+apart Floor a b = b - a
+apart Ceil a b = a - b
+
+-- the same over all entries of two vectors
+abbrev pub distance : Side → List ℕ → List ℕ → ℕ
+distance side u v = sum_by (λ e. apart side e.0 e.1) (zip u v)
 
 -- the side's rounded mean of a point
 abbrev pub mean_of : Side → List Point → ℕ → List ℕ → ℕ

@@ -5,7 +5,7 @@ ghost use Rattle.relax_system.specs.Forms.Flat.{dot, IsSoundRow};
 ghost use Rattle.relax_system.specs.Means.{InBoxes};
 ghost use Rattle.relax_system.specs.Forms.Narrow.{IsNarrow};
 ghost use Rattle.relax_system.specs.Sides.{mean_of, Before, IsQuiet};
-ghost use Rattle.relax_system.specs.Forms.Rounding.{rounded};
+ghost use Rattle.relax_system.specs.Rounding.{rounded};
 ghost use Rattle.relax_system.specs.System.{IsValid};
 ghost use Rattle.relax_system.specs.Forms.Way.{IsOnWay, room};
 

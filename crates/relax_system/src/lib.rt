@@ -8,11 +8,13 @@
 //!
 //! What comes in is a valid system; what goes out is its least and its greatest vector. The contract: `least_plain` meets
 //! `IsLeast` and `greatest_plain` meets `IsGreatest`, extremal among all vectors of the boxes. The laws in `laws` say that
-//! each is the one fixed point of its kind, and that every exact solution lies between them.
+//! each is the one fixed point of its kind, and that every exact solution lies between them. `halved_down` and `halved_up` make
+//! systems of shorter numbers, for a solve that begins with few digits; `halving` says how their vectors lie to each other.
 #![tactic(auto)]
 
 mod chains;
 mod flat;
+mod halved;
 mod laws;
 mod mean;
 mod plain;
@@ -22,7 +24,8 @@ mod system;
 mod valid;
 mod values;
 
-pub use laws::{enclosure, greatest_vector, least_vector, residuals_enclose};
+pub use halved::MOST_SHIFT;
+pub use laws::{enclosure, greatest_vector, halving, least_vector, residuals_enclose};
 pub use plain::{greatest_plain, least_plain};
 pub use points::{Near, NearList, Point, Points};
 pub use side::Side;

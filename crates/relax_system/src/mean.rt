@@ -2,7 +2,7 @@
 
 ghost use Rattle.std.specs.Prelude.{◌≡◌, ◌+◌, ◌*◌, ◌^◌, ◌<◌, ◌≤◌, length, All};
 ghost use Rattle.relax_system.specs.Means.{weighted_sum};
-ghost use Rattle.relax_system.specs.Forms.Rounding.{rounded};
+ghost use Rattle.relax_system.specs.Rounding.{rounded};
 
 use crate::points::Near;
 use crate::side::Side;

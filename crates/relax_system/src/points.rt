@@ -56,6 +56,18 @@ impl NearList {
         Ok(NearList { items, weight: 0 })
     }
 
+    /// The same list once more.
+    pub(crate) fn copy(&self, alloc: Global) -> Result<NearList, Memory>
+        ensures { IfOk result (λ list. list ≡ self.now) }
+    {
+        let mut items = Vec::with_capacity(alloc, self.items.len())?;
+        items.extend_from_slice(&self.items)?;
+        Ok(NearList {
+            items,
+            weight: self.weight,
+        })
+    }
+
     /// Appends a neighbour. On want of memory the list is as before.
     pub fn push(&mut self, item: Near) -> Result<(), Memory>
         ensures pushed { OnOk result (self.new ≡ self.old ++ item ∷ []) }

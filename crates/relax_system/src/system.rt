@@ -14,7 +14,7 @@ use std::marker::Model;
 /// A valid system of point equations.
 #[derive(Drop)]
 pub struct System {
-    points: Points,
+    pub(crate) points: Points,
     // whether the sums of all means are known to fit 64 bits
     narrow: bool,
 }

@@ -1,5 +1,4 @@
 pub mod Numbers
-pub mod Distances
 pub mod Vectors
 pub mod Seen
 pub mod Sounds

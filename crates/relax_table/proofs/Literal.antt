@@ -9,9 +9,10 @@ use Rattle.relax_system.specs.Extremal.{IsLeast, IsGreatest}
 use Rattle.relax_system.specs.System.{point_at, IsValid}
 use Rattle.relax_system.proofs.Extremes.{extremal_there}
 use Rattle.relax_system.proofs.Sided.{IsLeast-from_extremal, IsGreatest-from_extremal}
-use Rattle.relax_table.specs.Ways.{apart, distance, IsQuietVector}
-use Rattle.relax_table.proofs.Numbers.{apart-within}
-use Rattle.relax_table.proofs.Distances.{distance-wide}
+use Rattle.relax_system.specs.Sides.{apart, distance}
+use Rattle.relax_table.specs.Ways.{IsQuietVector}
+use Rattle.relax_system.proofs.Ways.{apart-within}
+use Rattle.relax_system.proofs.Distances.{distance-wide}
 use Rattle.relax_table.specs.Seats.{SeatState, IsSound, Advances}
 use Rattle.relax_table.specs.Floor.{IsBelowLeast, Rises}
 use Rattle.relax_table.specs.Ceil.{IsAboveGreatest, Falls}

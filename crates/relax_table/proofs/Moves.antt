@@ -14,15 +14,16 @@ use Rattle.relax_system.specs.declared.side.Side.TheVariants.{Floor, Ceil}
 use Rattle.relax_system.specs.declared.points.Point.{Point}
 use Rattle.relax_system.specs.System.{point_at, IsValid}
 use Rattle.relax_system.specs.Means.{InBoxes}
-use Rattle.relax_system.specs.Sides.{AllBefore, mean_of}
+use Rattle.relax_system.specs.Sides.{AllBefore, mean_of, further_of}
 use Rattle.relax_system.proofs.SideMeans.{Before_refl, Before_trans, mean-low, mean-high, mean-mono}
 use Rattle.relax_table.specs.declared.rule.View.{View}
-use Rattle.relax_table.specs.Ways.{further_of, IsQuietVector}
+use Rattle.relax_table.specs.Ways.{IsQuietVector}
 use Rattle.relax_table.specs.Step.{word_after}
 use Rattle.relax_table.specs.Step.Kind.{Load, Renew}
 use Rattle.relax_table.specs.Seats.{IsSound}
 use Rattle.relax_table.specs.Forms.Rule.{state_of, all_moves, IsInStep, Keeps, stepped_view, Stepped, Learned, sprout, joined, gone, opened}
-use Rattle.relax_table.proofs.Numbers.{further-first, further-within, further-low, further-high, counted_apart, past-self, further-is_first, further-is_second}
+use Rattle.relax_system.proofs.Ways.{further-first, further-within, further-low, further-high}
+use Rattle.relax_table.proofs.Numbers.{counted_apart, past-self, further-is_first, further-is_second}
 use Rattle.relax_table.proofs.Vectors.{AllBefore-refl, at_furthest, length-furthest}
 use Rattle.relax_table.proofs.Seen.{there_of, seen_at_snoc, seen_at_join, moved_words-self}
 use Rattle.relax_table.proofs.Sounds.{sound_of, IsMove, keeps_moved, moved_in_step, all_moves-set}

@@ -7,17 +7,17 @@ use Rattle.relax_system.specs.declared.side.Side.{Side}
 use Rattle.relax_system.specs.declared.points.Point.{Point}
 use Rattle.relax_system.specs.declared.valid.TheConstants.{MOST_COORDINATE}
 use Rattle.relax_system.specs.System.{point_at}
-use Rattle.relax_system.specs.Sides.{Before, IsExtremal, mean_of}
+use Rattle.relax_system.specs.Sides.{Before, IsExtremal, mean_of, apart, distance}
 use Rattle.relax_system.proofs.SideMeans.{Before_trans}
 use Rattle.relax_system.proofs.Extremes.{extremal_there}
 use Rattle.relax_table.specs.declared.rule.View.{View}
-use Rattle.relax_table.specs.Ways.{is_past, one_if, apart, distance, IsQuietVector, IsQuietIn}
+use Rattle.relax_table.specs.Ways.{is_past, one_if, IsQuietVector, IsQuietIn}
 use Rattle.relax_table.specs.Step.{word_after}
 use Rattle.relax_table.specs.Step.Kind.{Load, Renew}
 use Rattle.relax_table.specs.Seats.{SeatState, IsSound, Advances, Continues}
 use Rattle.relax_table.specs.Forms.Rule.{state_of, Stepped, IsHeld, sprout, joined, furthest, Learned}
-use Rattle.relax_table.proofs.Numbers.{further-first, further-second, apart-within}
-use Rattle.relax_table.proofs.Distances.{distance-wide}
+use Rattle.relax_system.proofs.Ways.{further-first, further-second, apart-within}
+use Rattle.relax_system.proofs.Distances.{distance-wide}
 use Rattle.relax_table.proofs.Vectors.{AllBefore-refl, AllBefore-trans, AllBefore-set, mean_of-set, at_furthest}
 
 pub held_loaded : (side : Side) (id id' : TableId) (v w : View) (seen : List ℕ) (moves i x : ℕ) → IsHeld side id v seen moves → Stepped side Load i v x w → IsHeld side id' w (set seen i x) moves

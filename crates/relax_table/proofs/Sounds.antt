@@ -11,15 +11,15 @@ use Rattle.atomic_table.proofs.Lists.{at_set, set_here}
 use Rattle.relax_system.specs.declared.side.Side.{Side}
 use Rattle.relax_system.specs.declared.points.Point.{Point}
 use Rattle.relax_system.specs.System.{point_at}
-use Rattle.relax_system.specs.Sides.{Before, AllBefore}
+use Rattle.relax_system.specs.Sides.{Before, AllBefore, apart, distance}
 use Rattle.relax_system.proofs.SideMeans.{Before_trans}
 use Rattle.relax_system.proofs.Climbing.{InBoxes-set}
 use Rattle.relax_table.specs.declared.rule.View.{View}
-use Rattle.relax_table.specs.Ways.{apart, distance, is_past, one_if, IsQuietVector}
+use Rattle.relax_table.specs.Ways.{is_past, one_if, IsQuietVector}
 use Rattle.relax_table.specs.Seats.{IsSound}
 use Rattle.relax_table.specs.Forms.Rule.{state_of, all_moves, IsInStep, IsSeenBySome, Keeps}
 use Rattle.relax_table.proofs.Seen.{there_of, seen_at_set, moved_words-set}
-use Rattle.relax_table.proofs.Distances.{distance-add, distance-grows, distance_to_set}
+use Rattle.relax_system.proofs.Distances.{distance-add, distance-grows, distance_to_set}
 use Rattle.relax_table.proofs.Vectors.{AllBefore-trans, AllBefore-set, AllBefore-set_first, AllBefore-set_both, AllBefore-refl}
 
 -- one seat's moves are among all moves

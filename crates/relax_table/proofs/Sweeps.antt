@@ -12,17 +12,17 @@ use Rattle.relax_system.specs.declared.side.Side.TheVariants.{Floor, Ceil}
 use Rattle.relax_system.specs.declared.points.Near.{Near}
 use Rattle.relax_system.specs.declared.points.Point.{Point}
 use Rattle.relax_system.specs.System.{point_at, no_point, IsValid}
-use Rattle.relax_system.specs.Sides.{Before, AllBefore, mean_of}
+use Rattle.relax_system.specs.Sides.{Before, AllBefore, mean_of, distance}
 use Rattle.relax_system.specs.Means.{InBoxes}
 use Rattle.relax_system.proofs.SideMeans.{Before_refl}
-use Rattle.relax_table.specs.Ways.{distance, IsQuietVector, IsQuietIn}
+use Rattle.relax_table.specs.Ways.{IsQuietVector, IsQuietIn}
 use Rattle.relax_table.specs.Step.{word_after}
 use Rattle.relax_table.specs.Step.Kind.{Renew}
 use Rattle.relax_table.proofs.Vectors.{mean_of-set}
 use Rattle.relax_table.specs.Seats.{TableState, SeatState, IsSeatOf, IsSound, Advances, Continues, near_numbers, sweep_steps}
 use Rattle.relax_table.specs.Forms.Sweep.{SweepsOnce}
-use Rattle.relax_table.proofs.Numbers.{apart-positive}
-use Rattle.relax_table.proofs.Distances.{distance-add, distance_to_set}
+use Rattle.relax_system.proofs.Ways.{apart-positive}
+use Rattle.relax_system.proofs.Distances.{distance-add, distance_to_set}
 use Rattle.relax_table.proofs.Seated.{advances_on, advances_none, continues_on, continues_none}
 use Rattle.relax_table.proofs.Ranges.{once_more}
 

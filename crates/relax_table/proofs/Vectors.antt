@@ -12,8 +12,7 @@ use Rattle.relax_system.specs.declared.points.Near.{Near}
 use Rattle.relax_system.specs.declared.points.Point.{Point}
 use Rattle.relax_system.specs.System.{point_at, total_weight, IsValid, IsValidNear}
 use Rattle.relax_system.specs.Means.{weighted_sum, pull}
-use Rattle.relax_system.specs.Sides.{Before, AllBefore, mean_of}
-use Rattle.relax_table.specs.Ways.{further_of}
+use Rattle.relax_system.specs.Sides.{Before, AllBefore, mean_of, further_of}
 use Rattle.relax_table.specs.Forms.Rule.{furthest}
 use Rattle.relax_system.proofs.SideMeans.{Before_refl, Before_trans}
 use Rattle.relax_system.proofs.Climbing.{at_set}

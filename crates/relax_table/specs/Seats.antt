@@ -6,8 +6,8 @@ use Rattle.relax_system.specs.declared.side.Side.{Side}
 use Rattle.relax_system.specs.declared.points.Point.{Point}
 use Rattle.relax_system.specs.System.{point_at, IsValid}
 use Rattle.relax_system.specs.Means.{InBoxes}
-use Rattle.relax_system.specs.Sides.{AllBefore}
-use Rattle.relax_table.specs.Ways.{distance, IsQuietVector}
+use Rattle.relax_system.specs.Sides.{AllBefore, distance}
+use Rattle.relax_table.specs.Ways.{IsQuietVector}
 
 -- which table it is, its system, and the vector that it was made with
 pub record TableState : Type 0 where

@@ -2,8 +2,7 @@
 use Rattle.std.specs.Prelude.{ℕ, List, slice_set}
 use Rattle.relax_system.specs.declared.side.Side.{Side}
 use Rattle.relax_system.specs.declared.points.Point.{Point}
-use Rattle.relax_system.specs.Sides.{mean_of}
-use Rattle.relax_table.specs.Ways.{further_of}
+use Rattle.relax_system.specs.Sides.{mean_of, further_of}
 
 -- A load reads the word. A renewal puts the further one of the word and of the mean of what the seat has seen.
 pub data Kind : Type 0 where

@@ -1,16 +1,11 @@
 -- The two ways of a table: upwards from the bottoms with greater numbers, and downwards from the tops with smaller ones.
-use Rattle.std.specs.Prelude.{ℕ, ◌-◌, ◌<◌, ◌≤◌, List, max, min, sum_by, Bool, true, false, nat_lt}
-use Rattle.std.specs.List.{slice_index, zip}
+use Rattle.std.specs.Prelude.{ℕ, ◌<◌, ◌≤◌, List, Bool, true, false, nat_lt}
+use Rattle.std.specs.List.{slice_index}
 use Rattle.relax_system.specs.declared.side.Side.{Side}
 use Rattle.relax_system.specs.declared.side.Side.TheVariants.{Floor, Ceil}
 use Rattle.relax_system.specs.declared.points.Point.{Point}
 use Rattle.relax_system.specs.Means.{InBoxes}
 use Rattle.relax_system.specs.Sides.{Before, IsQuiet, mean_of}
-
--- of two coordinates the one that stands further on the way
-abbrev pub further_of : Side → ℕ → ℕ → ℕ
-further_of Floor a b = max a b
-further_of Ceil a b = min a b
 
 -- whether b stands past a
 abbrev pub is_past : Side → ℕ → ℕ → Bool
@@ -20,15 +15,6 @@ is_past Ceil a b = nat_lt b a
 abbrev pub one_if : Bool → ℕ
 one_if true = 1
 one_if false = 0
-
--- how far the way leads from a to b
-abbrev pub apart : Side → ℕ → ℕ → ℕ
-apart Floor a b = b - a
-apart Ceil a b = a - b
-
--- the same over all entries of two vectors
-abbrev pub distance : Side → List ℕ → List ℕ → ℕ
-distance side u v = sum_by (λ e. apart side e.0 e.1) (zip u v)
 
 -- a quiet vector of the boxes: a pre-fixed one going up, a post-fixed one going down
 pub record IsQuietVector (side : Side) (points : List Point) (u : List ℕ) : Type 0 where

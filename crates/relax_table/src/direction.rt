@@ -3,10 +3,10 @@
 ghost use Rattle.std.specs.Prelude.{◌≡◌};
 ghost use Rattle.relax_system.specs.declared.side.Side.{Side};
 ghost use Rattle.relax_system.specs.declared.side.Side.TheVariants.{Floor, Ceil};
-ghost use Rattle.relax_system.specs.Sides.{mean_of};
+ghost use Rattle.relax_system.specs.Sides.{mean_of, further_of};
 ghost use Rattle.relax_system.specs.Means.{InBoxes};
 ghost use Rattle.std.specs.Prelude.{◌<◌, length};
-ghost use Rattle.relax_table.specs.Ways.{further_of, is_past, one_if};
+ghost use Rattle.relax_table.specs.Ways.{is_past, one_if};
 
 use relax_system::{Side, System};
 

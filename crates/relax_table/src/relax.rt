@@ -1,12 +1,12 @@
 //! Single steps, and the relaxation of one point.
 
 ghost use Rattle.std.specs.Prelude.{◌≡◌, ◌≢◌, ℕ, ◌+◌, ◌<◌, ◌≤◌, length, slice_index, slice_set, MatchBool};
-ghost use Rattle.relax_system.specs.Sides.{Before, mean_of};
+ghost use Rattle.relax_system.specs.Sides.{Before, mean_of, distance};
 ghost use Rattle.relax_system.specs.System.{point_at};
 ghost use Rattle.relax_table.specs.Step.{word_after, seen_after};
 ghost use Rattle.relax_table.specs.Step.Kind.{Load, Renew};
 ghost use Rattle.relax_table.specs.Seats.{IsSeatOf, Advances, IsNoNeighbour, near_numbers};
-ghost use Rattle.relax_table.specs.Ways.{distance, is_past, one_if};
+ghost use Rattle.relax_table.specs.Ways.{is_past, one_if};
 ghost use Rattle.std.specs.Prelude.{[], ◌∷◌, ◌++◌, false, ◌||◌};
 ghost use Rattle.relax_table.specs.Forms.Rule.{Stepped};
 

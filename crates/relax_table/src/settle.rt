@@ -1,10 +1,10 @@
 //! Sweeps over a range of points, until what the seat has seen is quiet there.
 
 ghost use Rattle.std.specs.Prelude.{◌≡◌, ℕ, ◌+◌, ◌*◌, ◌<◌, ◌≤◌, List, length, MatchBool};
-ghost use Rattle.relax_system.specs.Sides.{IsExtremal};
+ghost use Rattle.relax_system.specs.Sides.{IsExtremal, distance};
 ghost use Rattle.relax_table.specs.Seats.{IsSeatOf, Advances, Continues, BeginsWithSweep, sweep_steps};
 ghost use Rattle.relax_table.specs.Forms.Sweep.{SweepsOnce};
-ghost use Rattle.relax_table.specs.Ways.{distance, IsQuietVector, IsQuietIn};
+ghost use Rattle.relax_table.specs.Ways.{IsQuietVector, IsQuietIn};
 
 use crate::direction::Direction;
 use crate::relax::either;

@@ -1,10 +1,10 @@
 //! A table of one direction: how it is made, and how its seats are split and joined.
 
 ghost use Rattle.std.specs.Prelude.{◌≡◌, [], ◌+◌, ◌<◌, ◌≤◌, length, slice_index, IfOk, OnOk, OnErr};
-ghost use Rattle.relax_system.specs.Sides.{AllBefore};
+ghost use Rattle.relax_system.specs.Sides.{AllBefore, further_of};
 ghost use Rattle.relax_system.specs.Means.{InBoxes};
 ghost use Rattle.relax_system.specs.System.{IsValid};
-ghost use Rattle.relax_table.specs.Ways.{further_of, IsQuietVector};
+ghost use Rattle.relax_table.specs.Ways.{IsQuietVector};
 ghost use Rattle.relax_table.specs.Seats.{SeatState, IsSeatOf, IsSound, Advances};
 ghost use Rattle.relax_table.specs.Forms.Rule.{furthest};
 ghost use Rattle.std.specs.Prelude.{ℕ, List};

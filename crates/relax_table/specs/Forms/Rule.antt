@@ -8,9 +8,9 @@ use Rattle.relax_system.specs.declared.side.Side.{Side}
 use Rattle.relax_system.specs.declared.points.Point.{Point}
 use Rattle.relax_system.specs.System.{IsValid}
 use Rattle.relax_system.specs.Means.{InBoxes}
-use Rattle.relax_system.specs.Sides.{Before, AllBefore}
+use Rattle.relax_system.specs.Sides.{Before, AllBefore, further_of, distance}
 use Rattle.relax_table.specs.declared.rule.View.{View}
-use Rattle.relax_table.specs.Ways.{further_of, is_past, one_if, distance, IsQuietVector}
+use Rattle.relax_table.specs.Ways.{is_past, one_if, IsQuietVector}
 use Rattle.relax_table.specs.Step.{Kind, word_after, seen_after}
 use Rattle.relax_table.specs.Step.Kind.{Load, Renew}
 use Rattle.relax_table.specs.Seats.{SeatState, IsSound}

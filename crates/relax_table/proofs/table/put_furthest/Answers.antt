@@ -1,7 +1,7 @@
 use Rattle.std.proofs.Common.{◌≡◌, ◌<◌, length, arith}
 use Rattle.std.proofs.lemmas.List.{get_or_read}
 use Rattle.std.specs.List.{slice_index}
-use Rattle.relax_table.specs.Ways.{further_of}
+use Rattle.relax_system.specs.Sides.{further_of}
 use Rattle.relax_table.proofs.Vectors.{put_more, put_all}
 use Rattle.relax_table.proofs.table.put_furthest.Goals as goal
 

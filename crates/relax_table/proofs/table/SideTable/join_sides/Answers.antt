@@ -1,7 +1,7 @@
 use Rattle.std.proofs.Common.{rules, ◌≡◌, ℕ, List, length, arith, ap, sym, ◌∙◌, subst}
 use Rattle.relax_system.specs.declared.points.Point.{Point}
 use Rattle.std.specs.List.{slice_index}
-use Rattle.relax_table.specs.Ways.{further_of}
+use Rattle.relax_system.specs.Sides.{further_of}
 use Rattle.relax_table.proofs.Vectors.{at_furthest}
 use Rattle.relax_table.specs.Seats.{SeatState, Advances}
 use Rattle.relax_table.specs.declared.rule.View.{View}

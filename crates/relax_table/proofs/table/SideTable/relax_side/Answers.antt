@@ -5,7 +5,7 @@ use Rattle.relax_system.specs.declared.points.Point.{Point}
 use Rattle.relax_system.specs.System.{IsValid}
 use Rattle.relax_system.specs.Sides.{Before, mean_of}
 use Rattle.relax_system.proofs.SideMeans.{Before_trans}
-use Rattle.relax_table.proofs.Numbers.{further-first}
+use Rattle.relax_system.proofs.Ways.{further-first}
 use Rattle.relax_table.specs.Seats.{SeatState}
 use Rattle.relax_table.proofs.Seated.{advances_on}
 use Rattle.relax_table.proofs.Sweeps.{relaxed_went, relaxed_word}

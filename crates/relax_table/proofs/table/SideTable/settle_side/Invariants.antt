@@ -1,4 +1,4 @@
-use Rattle.relax_table.specs.Ways.{distance}
+use Rattle.relax_system.specs.Sides.{distance}
 use Rattle.relax_table.specs.Seats.{sweep_steps}
 use Rattle.relax_table.proofs.Ranges.{HasBegun}
 use Rattle.relax_table.proofs.Sweeps.{IsSettling, ends_of}

@@ -3,9 +3,8 @@ use Rattle.std.proofs.Common.{◌≡◌, ℕ, ◌+◌, ◌*◌, ◌<◌, ◌≤�
 use Rattle.std.specs.List.{slice_index, zip}
 use Rattle.std.proofs.lemmas.List.Sums.{sum_by-cons}
 use Rattle.relax_system.specs.declared.side.Side.{Side}
-use Rattle.relax_system.specs.Sides.{AllBefore}
-use Rattle.relax_table.specs.Ways.{apart, distance}
-use Rattle.relax_table.proofs.Numbers.{apart-add, apart-self}
+use Rattle.relax_system.specs.Sides.{AllBefore, apart, distance}
+use Rattle.relax_system.proofs.Ways.{apart-add, apart-self}
 
 pub distance-cons : (side : Side) (x y : ℕ) (u v : List ℕ) → distance side (x ∷ u) (y ∷ v) ≡ apart side x y + distance side u v
 distance-cons side x y u v = sum_by-cons (λ (e : ℕ × ℕ). apart side e.0 e.1) (x, y) (zip u v)
