@@ -36,15 +36,15 @@ IsOnWay-set side points v i valid h there = record {
       (λ k _. h.first u boxes quiet k);
 }
 
-start-low : (side : Side) (p : Point) → p.lo ≤ p.hi → p.lo ≤ start_of side p
+pub start-low : (side : Side) (p : Point) → p.lo ≤ p.hi → p.lo ≤ start_of side p
 start-low Floor p h = omega arith
 start-low Ceil p h = omega arith
 
-start-high : (side : Side) (p : Point) → p.lo ≤ p.hi → start_of side p ≤ p.hi
+pub start-high : (side : Side) (p : Point) → p.lo ≤ p.hi → start_of side p ≤ p.hi
 start-high Floor p h = omega arith
 start-high Ceil p h = omega arith
 
-start_before : (side : Side) (p : Point) (x : ℕ) → p.lo ≤ x → x ≤ p.hi → Before side (start_of side p) x
+pub start_before : (side : Side) (p : Point) (x : ℕ) → p.lo ≤ x → x ≤ p.hi → Before side (start_of side p) x
 start_before Floor p x low high = low
 start_before Ceil p x low high = high
 

@@ -14,3 +14,5 @@ pub mod Residuals
 pub mod Dots
 pub mod Rows
 pub mod Sweeping
+pub mod Powers
+pub mod Halvings
