@@ -1,7 +1,7 @@
 -- Halved systems: they are valid, and the vectors of one lie, doubled, before those of the system that is halved once less.
 use Rattle.std.proofs.Common.{◌≡◌, ℕ, ◌+◌, ◌-◌, ◌*◌, ◌/◌, ◌^◌, ◌<◌, ◌≤◌, List, [], ◌∷◌, ◌++◌, length, map, zero, suc, refl, sym, ap, ◌∙◌, subst, ⊎_elim, add-one, arith}
 use Rattle.std.specs.Int.{div_ceil}
-use Rattle.std.specs.List.{slice_index, All, sum_by, range_with_len, zip}
+use Rattle.std.specs.List.{slice_index, sum_by, range_with_len, zip}
 use Rattle.std.proofs.Math.Nat.{le_trans, mul-le-mul_left}
 use Rattle.std.proofs.lemmas.List.{length-map, get_or-map, get_or_past, map-id}
 use Rattle.std.proofs.lemmas.List.FromFn.{map-range_with_len_more}
@@ -18,7 +18,7 @@ use Rattle.relax_system.specs.declared.valid.TheConstants.{MOST_COORDINATE}
 use Rattle.relax_system.specs.System.{point_at, no_point, total_weight, IsValidNear, IsValidPoint, IsValid}
 use Rattle.relax_system.specs.Means.{InBoxes, weighted_sum, pull}
 use Rattle.relax_system.specs.Rounding.{rounded}
-use Rattle.relax_system.specs.Sides.{Before, AllBefore, apart, further_of, distance, mean_of, start_of, starts_of, IsQuiet, IsExtremal}
+use Rattle.relax_system.specs.Sides.{Before, AllBefore, apart, further_of, distance, start_of, starts_of, IsQuiet, IsExtremal}
 use Rattle.relax_system.specs.Halved.{halved_point, halved, doubled, IsCascade, cascade_way}
 use Rattle.relax_system.proofs.Powers.{rounded-low, rounded-high, rounded-zero, rounded-one, times_floor, times_ceil, div_ceil-next, rounded-next, half-before, twice-mono, twice_sum, twice_product, half-quiet, step_apart}
 use Rattle.relax_system.proofs.Division.{div-mono, div_ceil-high}

@@ -8,7 +8,7 @@ ghost use Rattle.relax_system.specs.Rounding.{rounded};
 
 use crate::points::{Point, Points};
 use crate::side::Side;
-use crate::system::System;
+use crate::system::{System, are_narrow};
 use book_text::Memory;
 use std::alloc::Global;
 
@@ -53,14 +53,35 @@ impl System {
         requires of { (before : ℕ) × (self.old ≡ halved side before whole.now) }
         ensures { self.new ≡ halved side shift whole.now }
     {
-        for i in 0..whole.points() {
-            let point = whole.point(i);
-            let item = &mut self.points.items[i];
-            item.lo = point.lo >> shift;
-            item.hi = over_power(Side::Ceil, u128::from(point.hi), shift) as u64;
-            item.anchored = over_power(side, point.anchored, shift);
+        self.points.halve_anew(whole.points.as_slice(), side, shift);
+        self.narrow = are_narrow(self.points.as_slice());
+    }
+}
+
+impl Points {
+    /// Halves each of the points `whole` anew, where these are those points halved already.
+    fn halve_anew(&mut self, whole: &[Point], side: Side, shift: u32)
+        requires shift { shift ≤ MOST_SHIFT }
+        requires of { (before : ℕ) × (self.old ≡ halved side before whole.now) }
+        ensures { self.new ≡ halved side shift whole.now }
+    {
+        let points = self.items.as_mut_slice();
+        for i in 0..whole.len() {
+            halve_point_anew(&mut points[i], &whole[i], side, shift);
         }
     }
+}
+
+/// Halves the point `whole` anew, where `point` has its neighbours and its weights already.
+fn halve_point_anew(point: &mut Point, whole: &Point, side: Side, shift: u32)
+    requires shift { shift ≤ MOST_SHIFT }
+    requires near { point.old.near ≡ whole.now.near }
+    requires anchor { point.old.anchor ≡ whole.now.anchor }
+    ensures { point.new ≡ halved_point side shift whole.now }
+{
+    point.lo = whole.lo >> shift;
+    point.hi = whole.hi.div_ceil(1 << shift);
+    point.anchored = over_power(side, whole.anchored, shift);
 }
 
 /// The point with each coordinate over 2 ^ shift.
@@ -70,7 +91,7 @@ fn halved_point(alloc: Global, side: Side, shift: u32, point: &Point) -> Result<
 {
     Ok(Point {
         lo: point.lo >> shift,
-        hi: over_power(Side::Ceil, u128::from(point.hi), shift) as u64,
+        hi: point.hi.div_ceil(1 << shift),
         near: point.near.copy(alloc)?,
         anchor: point.anchor,
         anchored: over_power(side, point.anchored, shift),

@@ -16,7 +16,7 @@ use std::marker::Model;
 pub struct System {
     pub(crate) points: Points,
     // whether the sums of all means are known to fit 64 bits
-    narrow: bool,
+    pub(crate) narrow: bool,
 }
 
 impl Model for System {
@@ -123,7 +123,7 @@ impl System {
 }
 
 /// Whether the sums of all means fit 64 bits.
-fn are_narrow(points: &[Point]) -> bool
+pub(crate) fn are_narrow(points: &[Point]) -> bool
     requires { IsValid points.now }
     ensures { IsTrue result → IsNarrow points.now }
 {
