@@ -1,9 +1,8 @@
 //! Systems with shorter numbers, by which a solve begins with few digits.
 
-ghost use Rattle.std.specs.Prelude.{◌≡◌, ℕ, ◌≤◌, ◌^◌, length, IfOk};
+ghost use Rattle.std.specs.Prelude.{◌≡◌, ℕ, ◌≤◌, ◌^◌, IfOk};
 ghost use Rattle.relax_system.specs.Halved.{halved, halved_point};
 ghost use Rattle.relax_system.specs.declared.side.Side.TheVariants.{Floor, Ceil};
-ghost use Rattle.relax_system.specs.System.{point_at};
 ghost use Rattle.relax_system.specs.Rounding.{rounded};
 
 use crate::points::{Point, Points};
