@@ -1,15 +1,14 @@
 //! The crew of a table, over its direction.
 
-ghost use Rattle.std.specs.Prelude.{◌≡◌, ◌+◌, ◌-◌, ◌<◌, ◌≤◌, length, vec_len, IfOk};
+ghost use Rattle.std.specs.Prelude.{◌≡◌, ◌≢◌, ◌+◌, ◌-◌, ◌<◌, ◌≤◌, length, vec_len, IfOk, IfSome, IsSome};
 ghost use Rattle.std.specs.Thread.{IsSync};
 ghost use Rattle.relax_system.specs.Sides.{starts_of, IsExtremal};
 ghost use Rattle.relax_table.specs.Seats.{IsSeatOf};
 ghost use Rattle.relax_crew.specs.Crew.{IsCrewSize};
 ghost use Rattle.relax_table.specs.Forms.Sweep.{SweepsOnce};
-ghost use Rattle.relax_crew.specs.Forms.Turns.{AllSeated, AllSingle, AllExtremal, BeginsWithTwoSweeps, IsTurn};
+ghost use Rattle.relax_crew.specs.Forms.Turns.{AllSeated, AllSingle, HasRun, BeginsWithTwoSweeps, IsTurn};
 
 use crate::range::{MOST_SEATS, range_of};
-use crate::spaced::Spaced;
 use book_outer::Gate;
 use book_text::Memory;
 use relax_system::{MOST_POINTS, Side, System};
@@ -39,9 +38,8 @@ pub(crate) fn solve<D: Direction, R: Threads + Sync, G: Gate>(
     let points = system.points();
     let start = starts(alloc, D::side(), system)?;
     let (table, first) = SideTable::<D>::over(alloc, system, &start)?;
-    let mut spaced = spaced_seats(alloc, &table, first, seats)?;
-    run(rt, &table, points, &mut spaced, gate);
-    Ok(joined(&table, spaced))
+    let crew = seats_of(alloc, &table, first, seats)?;
+    Ok(run(rt, &table, points, crew, gate))
 }
 
 /// The ends of the boxes at which a side begins.
@@ -59,78 +57,130 @@ fn starts(alloc: Global, side: Side, system: &System) -> Result<Vec<u64>, Memory
     Ok(start)
 }
 
-/// Seats of the table, a cache line apart, of which the first is given.
-fn spaced_seats<D: Direction>(
+/// Seats of the table, of which the first is given.
+fn seats_of<D: Direction>(
     alloc: Global,
     table: &SideTable<'_, D>,
     mut first: SideSeat<D>,
     seats: usize,
-) -> Result<Vec<Spaced<D>>, Memory>
+) -> Result<Vec<SideSeat<D>>, Memory>
     requires own { IsSeatOf table.now first }
     requires single { first.parts ≡ 1 }
     requires some { 1 ≤ seats }
-    ensures count { IfOk result (λ b. vec_len b ≡ seats) }
-    ensures seated { IfOk result (λ b. AllSeated table.now b.items) }
-    ensures single { IfOk result (λ b. AllSingle b.items) }
+    ensures count { IfOk result (λ crew. vec_len crew ≡ seats) }
+    ensures seated { IfOk result (λ crew. AllSeated table.now crew.items) }
+    ensures single { IfOk result (λ crew. AllSingle crew.items) }
 {
-    let mut spaced = Vec::new(alloc);
+    let mut crew = Vec::with_capacity(alloc, seats)?;
     for _ in 1..seats {
-        spaced.push(Spaced::new(table.split_side(&mut first)?))?;
+        crew.push(table.split_side(&mut first)?)?;
     }
-    spaced.push(Spaced::new(first))?;
-    Ok(spaced)
+    crew.push(first)?;
+    Ok(crew)
 }
 
-/// Runs each seat in a thread of its own.
+/// The seats of a crew joined into one, after each has taken its turn: in a thread of its own where they are several.
 fn run<D: Direction, R: Threads + Sync, G: Gate>(
     rt: &R,
     table: &SideTable<'_, D>,
     points: usize,
-    spaced: &mut [Spaced<D>],
+    mut crew: Vec<SideSeat<D>>,
     gate: &G,
-)
+) -> SideSeat<D>
     requires points { points ≡ length table.now.system }
     requires few { points ≤ MOST_POINTS }
-    requires some { IsCrewSize (length spaced.old) }
-    requires seated { AllSeated table.now spaced.old }
-    requires single { AllSingle spaced.old }
-    ensures count { length spaced.new ≡ length spaced.old }
-    ensures seated { AllSeated table.now spaced.new }
-    ensures single { AllSingle spaced.new }
-    ensures extremal { AllExtremal D.side table.now.system spaced.new }
+    requires some { IsCrewSize (vec_len crew) }
+    requires seated { AllSeated table.now crew.items }
+    requires single { AllSingle crew.items }
+    ensures { HasRun D.side table.now (vec_len crew) result }
 {
-    let seats = spaced.len();
-    thread::for_each_mut(
+    let seats = crew.len();
+    if seats > 1 {
+        let Some(seat) = run_in_threads(rt, table, points, seats, crew, gate) else {
+            unreachable!()
+        };
+        return seat;
+    }
+    let Some(seat) = crew.pop() else {
+        unreachable!()
+    };
+    take_turn(table, seat, 0, seats, points, gate)
+}
+
+/// Runs the seats of a crew, the last one first, each in a thread of its own, and joins them into one. The thread of the caller does
+/// nothing but wait: where it went on working itself, a scheduler might leave the first of the new threads behind it on its processor.
+fn run_in_threads<D: Direction, R: Threads + Sync, G: Gate>(
+    rt: &R,
+    table: &SideTable<'_, D>,
+    points: usize,
+    seats: usize,
+    mut crew: Vec<SideSeat<D>>,
+    gate: &G,
+) -> Option<SideSeat<D>>
+    requires points { points ≡ length table.now.system }
+    requires few { points ≤ MOST_POINTS }
+    requires count { vec_len crew ≤ seats }
+    requires seats { seats ≤ MOST_SEATS }
+    requires seated { AllSeated table.now crew.items }
+    requires single { AllSingle crew.items }
+    ensures none { vec_len crew ≢ 0 → IsSome result }
+    ensures run { IfSome result (HasRun D.side table.now (vec_len crew)) }
+{
+    let seat = crew.pop()?;
+    let k = crew.len();
+    let (seat, others) = thread::join(
         rt,
-        spaced,
-        seats,
-        &|k, one: &mut Spaced<D>|
-            requires { IsSync G.row × (k < seats) × (seats ≤ MOST_SEATS) × (points ≤ MOST_POINTS) × (points ≡ length table.now.system) × IsSeatOf table.now one.now.seat × (one.now.seat.parts ≡ 1) }
-            ensures { IsSeatOf table.entry.now one.exit.now.seat × IsExtremal D.side table.entry.now.system one.exit.now.seat.seen × (one.exit.now.seat.parts ≡ 1) }
-        { take_turn(table, one, k, seats, points, gate) },
+        move || -> SideSeat<D>
+            requires { IsSync G.row × (k < seats) × (seats ≤ MOST_SEATS) × (points ≤ MOST_POINTS) × (points ≡ length table.now.system) × IsSeatOf table.now seat × (seat.parts ≡ 1) }
+            ensures { HasRun D.side table.entry.now 1 result }
+        { take_turn(table, seat, k, seats, points, gate) },
+        move || -> Option<SideSeat<D>>
+            requires { IsSync R.row × IsSync G.row × (vec_len crew ≤ seats) × (seats ≤ MOST_SEATS) × (points ≤ MOST_POINTS) × (points ≡ length table.now.system) × AllSeated table.now crew.items × AllSingle crew.items }
+            ensures { (vec_len crew ≢ 0 → IsSome result) × IfSome result (HasRun D.side table.entry.now (vec_len crew)) }
+        { run_in_threads(rt, table, points, seats, crew, gate) },
     );
+    Some(together(table, seat, others, k))
+}
+
+/// One seat of a crew and the `k` others, which are joined already.
+fn together<D: Direction>(
+    table: &SideTable<'_, D>,
+    seat: SideSeat<D>,
+    others: Option<SideSeat<D>>,
+    k: usize,
+) -> SideSeat<D>
+    requires one { HasRun D.side table.now 1 seat }
+    requires others { IfSome others (HasRun D.side table.now k) }
+    requires some { k ≢ 0 → IsSome others }
+    ensures { HasRun D.side table.now (k + 1) result }
+{
+    let _ = k;
+    match others {
+        None => seat,
+        Some(others) => table.join_sides(seat, others),
+    }
 }
 
 /// What the thread of seat `k` does: first of all two sweeps over its own range. Its steps aren't counted.
 fn take_turn<D: Direction, G: Gate>(
     table: &SideTable<'_, D>,
-    one: &mut Spaced<D>,
+    mut seat: SideSeat<D>,
     k: usize,
     seats: usize,
     points: usize,
     gate: &G,
-)
-    requires own { IsSeatOf table.now one.old.seat }
+) -> SideSeat<D>
+    requires own { IsSeatOf table.now seat }
     requires points { points ≡ length table.now.system }
     requires few { points ≤ MOST_POINTS }
     requires seat { k < seats }
     requires seats { seats ≤ MOST_SEATS }
-    ensures own { IsSeatOf table.now one.new.seat }
-    ensures extremal { IsExtremal D.side table.now.system one.new.seat.seen }
-    ensures turn { IsTurn table.now.system k seats one.old.seat one.new.seat }
+    ensures run { HasRun D.side table.now seat.parts result }
+    ensures turn { IsTurn table.now.system k seats seat result }
 {
     let range = range_of(k, seats, points);
-    work::<D, Brand, G>(table, &mut one.seat, k, range, gate, Blank::new(1));
+    work::<D, Brand, G>(table, &mut seat, k, range, gate, Blank::new(1));
+    seat
 }
 
 /// What one seat does: it relaxes its range once, calling the gate after each point, settles its range, and settles all points.
@@ -180,24 +230,4 @@ fn first_sweep<D: Direction, L: Ledger, G: Gate>(
         table.relax_side(seat, i, steps);
         gate.pass(k, i);
     }
-}
-
-/// One seat, into which all are joined.
-fn joined<D: Direction>(table: &SideTable<'_, D>, mut spaced: Vec<Spaced<D>>) -> SideSeat<D>
-    requires some { 1 ≤ vec_len spaced }
-    requires seated { AllSeated table.now spaced.items }
-    requires single { AllSingle spaced.items }
-    requires extremal { AllExtremal D.side table.now.system spaced.items }
-    ensures own { IsSeatOf table.now result }
-    ensures parts { result.parts ≡ vec_len spaced }
-    ensures extremal { IsExtremal D.side table.now.system result.seen }
-{
-    let Some(last) = spaced.pop() else {
-        unreachable!()
-    };
-    let mut seat = last.seat;
-    'more: while let Some(one) = spaced.pop() {
-        seat = table.join_sides(seat, one.seat);
-    }
-    seat
 }

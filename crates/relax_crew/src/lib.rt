@@ -14,7 +14,6 @@ mod ceil;
 mod crew;
 mod floor;
 mod range;
-mod spaced;
 
 pub use ceil::{CeilAnswer, greatest};
 pub use floor::{FloorAnswer, least};

@@ -4,7 +4,6 @@ use Rattle.relax_system.specs.declared.side.Side.{Side}
 use Rattle.relax_system.specs.declared.points.Point.{Point}
 use Rattle.relax_system.specs.Sides.{IsExtremal}
 use Rattle.relax_table.specs.Seats.{TableState, SeatState, IsSeatOf, IsFront, numbers_between, nears_between}
-use Rattle.relax_crew.specs.declared.spaced.Spaced.{Spaced}
 
 -- the first point of the seat k, where so many points are dealt out to so many seats
 abbrev pub first_point : ℕ → ℕ → ℕ → ℕ
@@ -21,13 +20,15 @@ abbrev pub IsTurn : List Point → ℕ → ℕ → SeatState → SeatState → T
 IsTurn points k seats old new = BeginsWithTwoSweeps points (first_point k seats (length points)) (first_point (k + 1) seats (length points)) old new
 
 -- each seat is one of the table
-abbrev pub AllSeated : {D : Type 0} → TableState → List (Spaced D) → Type 0
-AllSeated t spaced = All (λ b. IsSeatOf t b.seat) spaced
+abbrev pub AllSeated : TableState → List SeatState → Type 0
+AllSeated t crew = All (IsSeatOf t) crew
 
 -- each is one seat, and none is made of several
-abbrev pub AllSingle : {D : Type 0} → List (Spaced D) → Type 0
-AllSingle spaced = All (λ b. b.seat.parts ≡ 1) spaced
+abbrev pub AllSingle : List SeatState → Type 0
+AllSingle crew = All (λ s. s.parts ≡ 1) crew
 
--- each seat has seen the extremal vector of the side
-abbrev pub AllExtremal : {D : Type 0} → Side → List Point → List (Spaced D) → Type 0
-AllExtremal side points spaced = All (λ b. IsExtremal side points b.seat.seen) spaced
+-- a seat of the table, made of so many, that has seen the extremal vector
+pub record HasRun (side : Side) (t : TableState) (many : ℕ) (s : SeatState) : Type 0 where
+  pub own : IsSeatOf t s
+  pub parts : s.parts ≡ many
+  pub extremal : IsExtremal side t.system s.seen
