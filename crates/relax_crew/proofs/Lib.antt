@@ -1,2 +1,4 @@
 mod Joins
 pub mod Sweeping
+pub mod Doubling
+pub mod Shifts

@@ -1,17 +1,21 @@
 //! The crew of a table, over its direction.
 
-ghost use Rattle.std.specs.Prelude.{◌≡◌, ◌≢◌, ◌+◌, ◌-◌, ◌<◌, ◌≤◌, length, vec_len, IfOk, IfSome, IsSome};
+ghost use Rattle.std.specs.Prelude.{◌≡◌, ◌≢◌, ◌+◌, ◌-◌, ◌<◌, ◌≤◌, ℕ, List, length, vec_len, All, IfOk, IfSome, IsSome};
 ghost use Rattle.std.specs.Thread.{IsSync};
-ghost use Rattle.relax_system.specs.Sides.{starts_of, IsExtremal};
+ghost use Rattle.relax_system.specs.Means.{InBoxes};
+ghost use Rattle.relax_system.specs.Sides.{AllBefore, start_of, starts_of, IsExtremal};
+ghost use Rattle.relax_system.specs.Halved.{doubled};
+ghost use Rattle.relax_table.specs.Ways.{IsQuietVector};
 ghost use Rattle.relax_table.specs.Seats.{IsSeatOf};
 ghost use Rattle.relax_crew.specs.Crew.{IsCrewSize};
 ghost use Rattle.relax_table.specs.Forms.Sweep.{SweepsOnce};
 ghost use Rattle.relax_crew.specs.Forms.Turns.{AllSeated, AllSingle, HasRun, BeginsWithTwoSweeps, IsTurn};
+ghost use Rattle.relax_crew.specs.Forms.Shifts.{IsSettled, IsReached, IsSolved};
 
 use crate::range::{MOST_SEATS, range_of};
 use book_outer::Gate;
 use book_text::Memory;
-use relax_system::{MOST_POINTS, Side, System};
+use relax_system::{MOST_COORDINATE, MOST_POINTS, MOST_SHIFT, Point, Side, System};
 use relax_table::{Direction, SideSeat, SideTable, Steps};
 use std::alloc::Global;
 use std::marker::Brand;
@@ -19,42 +23,114 @@ use std::sync::ledger::{Blank, Ledger};
 use std::thread;
 use std::thread::Threads;
 
-/// A seat that has seen the extremal vector of its side, into which the seats of a crew were joined. Only want of memory is
-/// refused.
+/// A seat that has seen the extremal vector of its side, into which the seats of the last solve were joined, and how many words the
+/// seats of all solves moved. Only want of memory is refused.
 pub(crate) fn solve<D: Direction, R: Threads + Sync, G: Gate>(
     rt: &R,
     alloc: Global,
     system: &System,
     seats: usize,
     gate: &G,
-) -> Result<SideSeat<D>, Memory>
+) -> Result<(SideSeat<D>, u64), Memory>
     requires some { 0 < length system.now }
     requires seats { IsCrewSize seats }
-    ensures system { IfOk result (λ s. s.system ≡ system.now) }
-    ensures start { IfOk result (λ s. s.start ≡ starts_of D.side system.now) }
-    ensures extremal { IfOk result (λ s. IsExtremal D.side system.now s.seen) }
-    ensures parts { IfOk result (λ s. s.parts ≡ seats) }
+    ensures { IfOk result (λ s. IsSolved D.side system.now seats s.0 s.1) }
 {
-    let points = system.points();
-    let start = starts(alloc, D::side(), system)?;
-    let (table, first) = SideTable::<D>::over(alloc, system, &start)?;
-    let crew = seats_of(alloc, &table, first, seats)?;
-    Ok(run(rt, &table, points, crew, gate))
+    let _ = system.points();
+    let (mut start, before) = solve_halved::<D, R, G>(rt, alloc, system, seats, gate)?;
+    double(D::side(), system, &mut start);
+    let seat = settle_from::<D, R, G>(rt, alloc, system, &start, seats, gate)?;
+    let moves = before + seat.moves();
+    Ok((seat, moves))
+}
+
+/// The extremal vector of a side of the system halved once, and how many words were moved on the way: by a solve of the system
+/// with the most halvings, and then of those with one halving less each, from twice what the one before has found.
+fn solve_halved<D: Direction, R: Threads + Sync, G: Gate>(
+    rt: &R,
+    alloc: Global,
+    system: &System,
+    seats: usize,
+    gate: &G,
+) -> Result<(Vec<u64>, u64), Memory>
+    requires some { 0 < length system.now }
+    requires seats { IsCrewSize seats }
+    ensures { IfOk result (λ s. IsReached D.side system.now 1 s.0.items s.1) }
+{
+    let _ = system.points();
+    let mut halved = system.halved(alloc, D::side(), MOST_SHIFT)?;
+    let mut found = starts(alloc, D::side(), &halved)?;
+    let seat = settle_from::<D, R, G>(rt, alloc, &halved, &found, seats, gate)?;
+    found.copy_from_slice(seat.values());
+    let mut moves = seat.moves();
+    let mut shift = MOST_SHIFT;
+    'shifts: while shift > 1 {
+        shift -= 1;
+        halved.halve_anew(system, D::side(), shift);
+        double(D::side(), &halved, &mut found);
+        let seat = settle_from::<D, R, G>(rt, alloc, &halved, &found, seats, gate)?;
+        found.copy_from_slice(seat.values());
+        moves += seat.moves();
+    }
+    Ok((found, moves))
 }
 
 /// The ends of the boxes at which a side begins.
 fn starts(alloc: Global, side: Side, system: &System) -> Result<Vec<u64>, Memory>
     ensures { IfOk result (λ v. v.items ≡ starts_of side system.now) }
 {
-    let mut start = Vec::new(alloc);
+    let mut start = Vec::with_capacity(alloc, system.points())?;
     for i in 0..system.points() {
-        let point = system.point(i);
-        start.push(match side {
-            Side::Floor => point.lo,
-            Side::Ceil => point.hi,
-        })?;
+        start.push(end_of(side, system.point(i)))?;
     }
     Ok(start)
+}
+
+/// Doubles each entry, but no further back than the end of its box at which the side begins.
+fn double(side: Side, system: &System, v: &mut Vec<u64>)
+    requires all { length v.old.items ≡ length system.now }
+    requires low { All (λ x. x ≤ MOST_COORDINATE) v.old.items }
+    ensures { v.new.items ≡ doubled side system.now v.old.items }
+{
+    for i in 0..v.len() {
+        let end = end_of(side, system.point(i));
+        let twice = 2 * v[i];
+        v[i] = match side {
+            Side::Floor => end.max(twice),
+            Side::Ceil => end.min(twice),
+        };
+    }
+}
+
+/// The end of a point's box at which a side begins.
+fn end_of(side: Side, point: &Point) -> u64
+    ensures { result ≡ start_of side point.now }
+{
+    match side {
+        Side::Floor => point.lo,
+        Side::Ceil => point.hi,
+    }
+}
+
+/// A seat that has seen the extremal vector, into which the seats of a crew were joined that began with the start.
+fn settle_from<D: Direction, R: Threads + Sync, G: Gate>(
+    rt: &R,
+    alloc: Global,
+    system: &System,
+    start: &[u64],
+    seats: usize,
+    gate: &G,
+) -> Result<SideSeat<D>, Memory>
+    requires some { 0 < length system.now }
+    requires seats { IsCrewSize seats }
+    requires boxes { InBoxes system.now start.now }
+    requires first { (u : List ℕ) → IsQuietVector D.side system.now u → AllBefore D.side start.now u }
+    ensures { IfOk result (IsSettled D.side system.now start.now seats) }
+{
+    let points = system.points();
+    let (table, first) = SideTable::<D>::over(alloc, system, start)?;
+    let crew = seats_of(alloc, &table, first, seats)?;
+    Ok(run(rt, &table, points, crew, gate))
 }
 
 /// Seats of the table, of which the first is given.

@@ -146,10 +146,10 @@ twice_before side points y v valid h k i =
 starts_before : (side : Side) (points : List Point) (v : List ℕ) → InBoxes points v → (i : ℕ) → i < length points → Before side (start_of side (point_at points i)) (slice_index v i)
 starts_before side points v boxes i there = start_before side (point_at points i) (slice_index v i) (boxes.low i there) (boxes.high i there)
 
-length-doubled : (side : Side) (points : List Point) (y : List ℕ) → length y ≡ length points → length (doubled side points y) ≡ length points
+pub length-doubled : (side : Side) (points : List Point) (y : List ℕ) → length y ≡ length points → length (doubled side points y) ≡ length points
 length-doubled side points y e = omega (arith, e, length-map (zip points y) (λ (e : Point × ℕ). further_of side (start_of side e.0) (2 * e.1)), length-zip points y)
 
-doubled_at : (side : Side) (points : List Point) (y : List ℕ) (i : ℕ) → length y ≡ length points → i < length points → slice_index (doubled side points y) i ≡ further_of side (start_of side (point_at points i)) (2 * slice_index y i)
+pub doubled_at : (side : Side) (points : List Point) (y : List ℕ) (i : ℕ) → length y ≡ length points → i < length points → slice_index (doubled side points y) i ≡ further_of side (start_of side (point_at points i)) (2 * slice_index y i)
 doubled_at side points y i e there =
     let inside : i < length y = omega (arith, e, there) in
     let pairs : i < length (zip points y) = omega (arith, inside, there, length-zip points y) in

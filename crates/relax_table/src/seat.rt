@@ -1,5 +1,6 @@
 //! Seats: what one thread knows of a table.
 
+ghost use Rattle.std.specs.Prelude.{◌≡◌};
 ghost use Rattle.relax_table.specs.Seats.{IsSound};
 
 use crate::direction::Direction;
@@ -36,6 +37,22 @@ impl<D: Direction> Model for SideSeat<D> {
 }
 
 impl<D: Direction> SideSeat<D> {
+    /// What the seat has seen: one coordinate per point.
+    pub fn values(&self) -> &[u64]
+        ensures seen { result.now ≡ self.now.seen }
+        ensures sound { IsSound D.side self.now }
+    {
+        &self.seen
+    }
+
+    /// How many fetches of this seat, and of those that were joined to it, moved a word.
+    pub fn moves(&self) -> u64
+        ensures moves { result ≡ self.now.moves }
+        ensures sound { IsSound D.side self.now }
+    {
+        self.moves
+    }
+
     /// Does nothing; its clause is what holds of a seat at every moment.
     #[inline(always)]
     pub(crate) fn know(&self)

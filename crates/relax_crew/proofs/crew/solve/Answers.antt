@@ -1,21 +1,32 @@
-use Rattle.std.proofs.Common.{◌≡◌, ◌∙◌, List, ℕ}
-use Rattle.relax_system.specs.declared.side.Side.{Side}
-use Rattle.relax_system.specs.declared.points.Point.{Point}
-use Rattle.relax_system.specs.System.{IsValid}
-use Rattle.relax_system.specs.Means.{InBoxes}
-use Rattle.relax_system.specs.Sides.{AllBefore, starts_of}
-use Rattle.relax_system.proofs.Climbing.{IsOnWay_start}
-use Rattle.relax_table.specs.Ways.{IsQuietVector}
+use Rattle.std.proofs.Common.{rules, ◌≡◌, ◌+◌, ◌∙◌, subst, sym, arith}
+use Rattle.relax_system.specs.Halved.{halved, doubled}
+use Rattle.relax_system.proofs.Halvings.{halved-none}
+use Rattle.relax_crew.specs.Forms.Shifts.{IsSettled, IsReached, IsSolved}
+use Rattle.relax_crew.proofs.Shifts.{low_entries, last_in_boxes, last_first, solved, few_solved}
 use Rattle.relax_crew.proofs.crew.solve.Goals as goal
 
-in_boxes : (side : Side) (points : List Point) (start : List ℕ) → start ≡ starts_of side points → IsValid points → InBoxes points start
-in_boxes side points start e valid = rw e (IsOnWay_start side points valid).in_boxes
+pub double-requires-clause-low : goal.double-requires-clause-low
+double-requires-clause-low g c = low_entries g.D.Direction.side 1 c.args.system.now c.in_ok-start.start.items c.in_ok-start.before c.points.ensures.valid c.in_ok-start.ensures
 
-first : (side : Side) (points : List Point) (start : List ℕ) → start ≡ starts_of side points → IsValid points → (u : List ℕ) → IsQuietVector side points u → AllBefore side start u
-first side points start e valid u calm = rw e ((IsOnWay_start side points valid).first u calm.in_boxes calm.quiet)
+pub settle_from-requires-clause-boxes : goal.settle_from-requires-clause-boxes
+settle_from-requires-clause-boxes g c κs within =
+    let twice : c.deref.result.now ≡ doubled g.D.Direction.side c.args.system.now c.in_ok-start.start.items = search rules in
+    last_in_boxes g.D.Direction.side c.args.system.now c.in_ok-start.start.items c.deref.result.now c.in_ok-start.before c.points.ensures.valid c.in_ok-start.ensures twice
 
-pub over-requires-clause-boxes : goal.over-requires-clause-boxes
-over-requires-clause-boxes g c κs within = in_boxes g.D.Direction.side c.args.system.now _ (c.deref.ensures.value ∙ (rw c.side.ensures at c.in_ok-start.ensures)) c.points-points.ensures.valid
+pub settle_from-requires-clause-first : goal.settle_from-requires-clause-first
+settle_from-requires-clause-first g c κs within =
+    let twice : c.deref.result.now ≡ doubled g.D.Direction.side c.args.system.now c.in_ok-start.start.items = search rules in
+    last_first g.D.Direction.side c.args.system.now c.in_ok-start.start.items c.deref.result.now c.in_ok-start.before c.points.ensures.valid c.in_ok-start.ensures twice
 
-pub over-requires-clause-first : goal.over-requires-clause-first
-over-requires-clause-first g c κs within = first g.D.Direction.side c.args.system.now _ (c.deref.ensures.value ∙ (rw c.side.ensures at c.in_ok-start.ensures)) c.points-points.ensures.valid
+pub overflow_add-moves : goal.overflow_add-moves
+overflow_add-moves g c =
+    let twice : c.deref.result.now ≡ doubled g.D.Direction.side c.args.system.now c.in_ok-start.start.items = search rules in
+    let settled : IsSettled g.D.Direction.side c.args.system.now c.deref.result.now c.args.seats c.in_ok-seat.seat = search rules in
+    let done = solved g.D.Direction.side c.args.system.now c.in_ok-start.start.items c.deref.result.now c.args.seats c.in_ok-start.before c.in_ok-seat.seat c.points.ensures.valid c.in_ok-start.ensures twice settled in
+    omega (arith, c.moves.ensures.moves, few_solved g.D.Direction.side c.args.system.now c.args.seats (c.in_ok-start.before + c.in_ok-seat.seat.moves) c.in_ok-seat.seat c.points.ensures.valid done)
+
+pub returns : goal.returns
+returns g c =
+    let twice : c.deref.result.now ≡ doubled g.D.Direction.side c.args.system.now c.in_ok-start.start.items = search rules in
+    let settled : IsSettled g.D.Direction.side c.args.system.now c.deref.result.now c.args.seats c.in_ok-seat.seat = search rules in
+    rw c.moves.ensures.moves (solved g.D.Direction.side c.args.system.now c.in_ok-start.start.items c.deref.result.now c.args.seats c.in_ok-start.before c.in_ok-seat.seat c.points.ensures.valid c.in_ok-start.ensures twice settled)
