@@ -1,6 +1,6 @@
 //! Ceil tables. Their words fall from a start towards the greatest vector.
 
-ghost use Rattle.std.specs.Prelude.{◌≡◌, ◌≢◌, [], ◌∷◌, ◌++◌, ℕ, ◌+◌, ◌*◌, ◌<◌, ◌≤◌, min, List, length, slice_index, slice_set, nat_lt, IfOk, OnErr};
+ghost use Rattle.std.specs.Prelude.{◌≡◌, ◌≢◌, [], ◌∷◌, ◌++◌, ℕ, ◌+◌, ◌-◌, ◌*◌, ◌^◌, ◌<◌, ◌≤◌, min, List, length, slice_index, slice_set, nat_lt, IfOk, OnErr};
 ghost use Rattle.relax_system.specs.Means.{ceil_mean, InBoxes, IsPostFixed};
 ghost use Rattle.relax_system.specs.Extremal.{IsGreatest};
 ghost use Rattle.relax_system.specs.System.{point_at};
@@ -49,6 +49,13 @@ impl SideSeat<Down> {
     {
         self.moves
     }
+
+    /// How many mark words this seat took, and those that were joined to it. It stands still at the greatest `u64`.
+    pub fn takes(&self) -> u64
+        ensures { result ≡ min self.now.takes (2 ^ 64 - 1) }
+    {
+        self.takes
+    }
 }
 
 impl<'a> SideTable<'a, Down> {
@@ -62,7 +69,7 @@ impl<'a> SideTable<'a, Down> {
         requires { IsCeilStart system.now start.now }
         ensures table { IfOk result (λ t. (t.0.system ≡ system.now) × (t.0.start ≡ start.now)) }
         ensures own { IfOk result (λ t. IsSeatOf t.0 t.1) }
-        ensures seat { IfOk result (λ t. (t.1.seen ≡ start.now) × (t.1.loads ≡ 0) × (t.1.fetches ≡ 0) × (t.1.moves ≡ 0) × (t.1.parts ≡ 1) × (t.1.looked ≡ []) × (t.1.renewed ≡ [])) }
+        ensures seat { IfOk result (λ t. (t.1.seen ≡ start.now) × (t.1.loads ≡ 0) × (t.1.fetches ≡ 0) × (t.1.moves ≡ 0) × (t.1.parts ≡ 1) × (t.1.looked ≡ []) × (t.1.renewed ≡ []) × (t.1.takes ≡ 0)) }
         ensures above { IfOk result (λ t. IsAboveGreatest t.1) }
     {
         SideTable::over(alloc, system, start)
@@ -75,7 +82,7 @@ impl<'a> SideTable<'a, Down> {
         requires { IsSeatOf self.now seat.old }
         ensures same { seat.new ≡ seat.old }
         ensures own { IfOk result (IsSeatOf self.now) }
-        ensures seat { IfOk result (λ s. (s.seen ≡ seat.old.seen) × (s.loads ≡ 0) × (s.fetches ≡ 0) × (s.moves ≡ 0) × (s.parts ≡ 1) × (s.looked ≡ []) × (s.renewed ≡ [])) }
+        ensures seat { IfOk result (λ s. (s.seen ≡ seat.old.seen) × (s.loads ≡ 0) × (s.fetches ≡ 0) × (s.moves ≡ 0) × (s.parts ≡ 1) × (s.looked ≡ []) × (s.renewed ≡ []) × (s.takes ≡ 0)) }
         ensures above { IfOk result IsAboveGreatest }
     {
         self.split_side(seat)
@@ -88,7 +95,7 @@ impl<'a> SideTable<'a, Down> {
         requires other { IsSeatOf self.now other }
         ensures own { IsSeatOf self.now result }
         ensures seen { (i : ℕ) → slice_index result.seen i ≡ min (slice_index seat.seen i) (slice_index other.seen i) }
-        ensures counts { (result.loads ≡ seat.loads + other.loads) × (result.fetches ≡ seat.fetches + other.fetches) × (result.parts ≡ seat.parts + other.parts) }
+        ensures counts { (result.loads ≡ seat.loads + other.loads) × (result.fetches ≡ seat.fetches + other.fetches) × (result.parts ≡ seat.parts + other.parts) × (result.takes ≡ seat.takes + other.takes) }
         ensures lowers { result.moves ≡ seat.moves + other.moves }
         ensures falls { Falls seat result }
         ensures falls_other { Falls other result }
@@ -107,7 +114,7 @@ impl<'a> SideTable<'a, Down> {
         ensures step { seat.new.seen ≡ seen_after Ceil self.now.system Load i result seat.old.seen }
         ensures entry { slice_index seat.new.seen i ≡ result }
         ensures counts { (seat.new.loads ≡ seat.old.loads + 1) × (seat.new.fetches ≡ seat.old.fetches) × (seat.new.moves ≡ seat.old.moves) }
-        ensures points { (seat.new.looked ≡ seat.old.looked ++ i ∷ []) × (seat.new.renewed ≡ seat.old.renewed) × (seat.new.parts ≡ seat.old.parts) }
+        ensures points { (seat.new.looked ≡ seat.old.looked ++ i ∷ []) × (seat.new.renewed ≡ seat.old.renewed) × (seat.new.parts ≡ seat.old.parts) × (seat.new.takes ≡ seat.old.takes) }
         ensures steps { steps.new ≡ steps.old + 1 }
     {
         self.load(seat, i, steps)
@@ -126,7 +133,7 @@ impl<'a> SideTable<'a, Down> {
         ensures step { (result.new ≡ word_after Ceil self.now.system Renew i result.old seat.old.seen) × (seat.new.seen ≡ seen_after Ceil self.now.system Renew i result.old seat.old.seen) }
         ensures entry { slice_index seat.new.seen i ≡ result.new }
         ensures counts { (seat.new.loads ≡ seat.old.loads) × (seat.new.fetches ≡ seat.old.fetches + 1) × (seat.new.moves ≡ seat.old.moves + one_if (nat_lt result.new result.old)) }
-        ensures points { (seat.new.looked ≡ seat.old.looked) × (seat.new.renewed ≡ seat.old.renewed ++ i ∷ []) × (seat.new.parts ≡ seat.old.parts) }
+        ensures points { (seat.new.looked ≡ seat.old.looked) × (seat.new.renewed ≡ seat.old.renewed ++ i ∷ []) × (seat.new.parts ≡ seat.old.parts) × (seat.new.takes ≡ seat.old.takes) }
         ensures steps { steps.new ≡ steps.old + 1 }
     {
         self.renew(seat, i, steps)
@@ -145,7 +152,7 @@ impl<'a> SideTable<'a, Down> {
         ensures entry { slice_index seat.new.seen i ≡ result.new }
         ensures quiet { slice_index seat.new.seen i ≤ ceil_mean self.now.system i seat.new.seen }
         ensures counts { (seat.new.loads ≡ seat.old.loads + length (point_at self.now.system i).near) × (seat.new.fetches ≡ seat.old.fetches + 1) × (seat.new.moves ≡ seat.old.moves + one_if (nat_lt result.new result.old)) }
-        ensures points { (seat.new.looked ≡ seat.old.looked ++ near_numbers self.now.system i) × (seat.new.renewed ≡ seat.old.renewed ++ i ∷ []) × (seat.new.parts ≡ seat.old.parts) }
+        ensures points { (seat.new.looked ≡ seat.old.looked ++ near_numbers self.now.system i) × (seat.new.renewed ≡ seat.old.renewed ++ i ∷ []) × (seat.new.parts ≡ seat.old.parts) × (seat.new.takes ≡ seat.old.takes) }
         ensures steps { steps.new ≡ steps.old + (length (point_at self.now.system i).near + 1) }
     {
         self.relax_side(seat, i, steps).fetch

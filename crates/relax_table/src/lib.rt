@@ -13,6 +13,7 @@ mod ceil;
 mod direction;
 mod floor;
 mod laws;
+mod marks;
 mod relax;
 mod rule;
 mod seat;

@@ -37,4 +37,5 @@ returns-clause-points g c =
       looked_all g.D.Direction.side (point_at c.args.self.now.system c.args.i).near c.args.self.now c.args.seat.now c.loop-entry.seat c.args.steps.now c.loop-entry.steps c.loop-entry.entry-index c.loop-entry.moved c.loop-entry.invariant (omega (arith, c.loop-entry-test.false)),
       c.loop-entry.invariant.rest.0,
       c.loop-entry.invariant.rest.1,
+      c.loop-entry.invariant.rest.2,
     )
