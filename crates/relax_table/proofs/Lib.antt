@@ -6,4 +6,5 @@ pub mod Moves
 pub mod Seated
 pub mod Ranges
 pub mod Sweeps
+pub mod Chases
 pub mod Literal

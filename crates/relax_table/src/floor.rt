@@ -8,7 +8,8 @@ ghost use Rattle.relax_system.specs.declared.side.Side.TheVariants.{Floor};
 ghost use Rattle.relax_table.specs.Ways.{one_if};
 ghost use Rattle.relax_table.specs.Step.{word_after, seen_after};
 ghost use Rattle.relax_table.specs.Step.Kind.{Load, Renew};
-ghost use Rattle.relax_table.specs.Seats.{IsSeatOf, Continues, IsNoNeighbour, near_numbers, sweep_steps};
+ghost use Rattle.relax_table.specs.Seats.{IsSeatOf, Continues, GoesOn, TakesPasses, IsNoNeighbour, mark_words, near_numbers, sweep_steps};
+ghost use Rattle.relax_table.specs.declared.chase.TheConstants.{MOST_PASSES};
 ghost use Rattle.relax_table.specs.Floor.{IsFloorStart, rise, IsBelowLeast, Rises};
 
 use crate::direction::Up;
@@ -179,6 +180,32 @@ impl<'a> SideTable<'a, Up> {
         ensures cost { (v : List ℕ) → IsLeast self.now.system v → steps.new ≤ steps.old + (rise self.now.start v + 2) * sweep_steps self.now.system from to }
     {
         self.settle_side(seat, from, to, steps);
+    }
+
+    /// Takes marked points in place of sweeping over all: the mark words from `from` to before `to`, pass after pass. Each point
+    /// whose bit is found is relaxed, and where that changed its word its neighbours are marked. It ends after a pass that found
+    /// no bit, or after `passes` passes. What it leaves need not be quiet.
+    #[tactic(auto, using(crate::proofs::Literal::rises_of))]
+    pub fn chase<L: Ledger>(
+        &self,
+        seat: &mut FloorSeat,
+        from: usize,
+        to: usize,
+        passes: u64,
+        steps: &mut Steps<L>,
+    )
+        requires own { IsSeatOf self.now seat.old }
+        requires order { from ≤ to }
+        requires within { to ≤ mark_words (length self.now.system) }
+        requires few { passes ≤ MOST_PASSES }
+        ensures own { IsSeatOf self.now seat.new }
+        ensures rises { Rises seat.old seat.new }
+        ensures goes_on { GoesOn seat.old seat.new }
+        ensures takes { TakesPasses passes from to seat.old seat.new }
+        ensures counted { steps.new + (seat.old.loads + seat.old.fetches) ≡ steps.old + (seat.new.loads + seat.new.fetches) }
+        ensures cost { steps.new ≤ steps.old + passes * sweep_steps self.now.system (64 * from) (min (64 * to) (length self.now.system)) }
+    {
+        self.chase_side(seat, from, to, passes, steps);
     }
 
     /// Relaxes all points until the seat has seen the least vector, whatever other seats do. It takes at most H + 2 sweeps,

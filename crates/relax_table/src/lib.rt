@@ -10,6 +10,7 @@
 #![tactic(auto)]
 
 mod ceil;
+mod chase;
 mod direction;
 mod floor;
 mod laws;
@@ -22,6 +23,7 @@ mod steps;
 mod table;
 
 pub use ceil::{CeilSeat, CeilTable, Lowered};
+pub use chase::MOST_PASSES;
 pub use direction::{Direction, Down, Up};
 pub use floor::{FloorSeat, FloorTable, Raised};
 pub use laws::{ends_may_start, moves_are_few, quiet_is_extremal};
