@@ -1,7 +1,7 @@
 -- Chases: takes and marks, the bits of a mark word, and the points of a range of mark words.
-use Rattle.std.proofs.Common.{◌≡◌, ℕ, ◌+◌, ◌-◌, ◌*◌, ◌/◌, ◌^◌, ◌<◌, ◌≤◌, min, List, [], ◌∷◌, ◌++◌, append_assoc, length, zero, suc, refl, sym, ap, ◌∙◌, subst, ⊎_elim, w64, arith}
+use Rattle.std.proofs.Common.{◌≡◌, ℕ, ◌+◌, ◌-◌, ◌*◌, ◌/◌, ◌^◌, ◌<◌, ◌≤◌, ◌≢◌, ◌||◌, Bool, true, false, MatchBool, min, List, [], ◌∷◌, ◌++◌, append_assoc, length, zero, suc, refl, sym, ap, ◌∙◌, subst, ⊎_elim, w64, arith}
 use Rattle.std.specs.Int.{trailing_zeros}
-use Rattle.std.proofs.lemmas.Bool.{cases_lt}
+use Rattle.std.proofs.lemmas.Bool.{cases_lt, false≢true}
 use Rattle.std.proofs.lemmas.List.{append-nil}
 use Rattle.std.proofs.lemmas.Nat.{pow-add, pow_pos}
 use Rattle.std.proofs.lemmas.Nat.Bits.{bit_at-trailing_zeros, bit_at_above}
@@ -11,7 +11,7 @@ use Rattle.relax_system.specs.declared.side.Side.{Side}
 use Rattle.relax_system.specs.declared.points.Point.{Point}
 use Rattle.relax_system.specs.System.{point_at}
 use Rattle.relax_table.specs.declared.rule.View.{View}
-use Rattle.relax_table.specs.Seats.{TableState, SeatState, IsSeatOf, IsSound, Advances, GoesOn, mark_words, taken_once, near_numbers, sweep_steps}
+use Rattle.relax_table.specs.Seats.{TableState, SeatState, IsSeatOf, IsSound, Advances, GoesOn, mark_words, idle_after, taken_once, near_numbers, sweep_steps}
 use Rattle.relax_table.specs.Forms.Chase.{IsChased}
 use Rattle.relax_table.specs.Forms.Rule.{state_of, IsHeld, taken}
 use Rattle.relax_table.proofs.Vectors.{AllBefore-refl}
@@ -19,33 +19,33 @@ use Rattle.relax_table.proofs.Seated.{advances_none, advances_on}
 use Rattle.relax_table.proofs.Sweeps.{sweep_steps-more, sweep_steps-none}
 
 -- a seat after a swap of a mark word
-sound_taken : (side : Side) (s : SeatState) → IsSound side s → IsSound side (taken_once s)
-sound_taken side s h = record { valid = h.valid; start_boxes = h.start_boxes; in_boxes = h.in_boxes; started = h.started; first = h.first; paid = h.paid }
+sound_taken : (side : Side) (s : SeatState) (x : ℕ) → IsSound side s → IsSound side (taken_once s x)
+sound_taken side s x h = record { valid = h.valid; start_boxes = h.start_boxes; in_boxes = h.in_boxes; started = h.started; first = h.first; paid = h.paid }
 
-pub held_taken : (side : Side) (id id' : TableId) (v w : View) (seen : List ℕ) (moves takes takes' : ℕ) → IsHeld side id v seen moves takes → id' ≡ id → w ≡ taken v → takes' ≡ min (takes + 1) (2 ^ 64 - 1) → IsHeld side id' w seen moves takes'
-held_taken side id id' v w seen moves takes takes' held same e more = rw (same, e) (record {
+pub held_taken : (side : Side) (id id' : TableId) (v w : View) (seen : List ℕ) (moves takes takes' x : ℕ) → IsHeld side id v seen moves takes → id' ≡ id → w ≡ taken v x → takes' ≡ min (takes + 1) (2 ^ 64 - 1) → IsHeld side id' w seen moves takes'
+held_taken side id id' v w seen moves takes takes' x held same e more = rw (same, e) (record {
   same_seen = held.same_seen;
   same_moves = held.same_moves;
   same_takes = omega (arith, held.same_takes);
   unspent = held.unspent;
-  sound = sound_taken side (state_of id v) held.sound;
+  sound = sound_taken side (state_of id v) x held.sound;
 })
 
-pub state_taken : (id id' : TableId) (v w : View) (s : SeatState) → id' ≡ id → w ≡ taken v → state_of id v ≡ s → state_of id' w ≡ taken_once s
-state_taken id id' v w s same e is = ap (λ (i : TableId). state_of i w) same ∙ (ap (λ (z : View). state_of id z) e ∙ ap taken_once is)
+pub state_taken : (id id' : TableId) (v w : View) (s : SeatState) (x : ℕ) → id' ≡ id → w ≡ taken v x → state_of id v ≡ s → state_of id' w ≡ taken_once s x
+state_taken id id' v w s x same e is = ap (λ (i : TableId). state_of i w) same ∙ (ap (λ (z : View). state_of id z) e ∙ ap (λ (z : SeatState). taken_once z x) is)
 
-pub advances_taken : (side : Side) (s s' : SeatState) → IsSound side s → s' ≡ taken_once s → Advances side s s'
-advances_taken side s s' sound e = rw e (record {
+pub advances_taken : (side : Side) (s s' : SeatState) (x : ℕ) → IsSound side s → s' ≡ taken_once s x → Advances side s s'
+advances_taken side s s' x sound e = rw e (record {
   same_table = refl;
   same_system = refl;
   same_start = refl;
   counts = record { loads = omega arith; fetches = omega arith; moves = omega arith; takes = omega arith };
   further = AllBefore-refl side s.seen;
-  sound = sound_taken side s sound;
+  sound = sound_taken side s x sound;
 })
 
-pub own_taken : (t : TableState) (s s' : SeatState) → IsSeatOf t s → s' ≡ taken_once s → IsSeatOf t s'
-own_taken t s s' own e = rw e (record { same_table = own.same_table; same_system = own.same_system; same_start = own.same_start })
+pub own_taken : (t : TableState) (s s' : SeatState) (x : ℕ) → IsSeatOf t s → s' ≡ taken_once s x → IsSeatOf t s'
+own_taken t s s' x own e = rw e (record { same_table = own.same_table; same_system = own.same_system; same_start = own.same_start })
 
 -- a seat after a fetch_or on a mark word
 pub held_marked : (side : Side) (id id' : TableId) (v w : View) (seen : List ℕ) (moves takes : ℕ) → IsHeld side id v seen moves takes → id' ≡ id → w ≡ v → IsHeld side id' w seen moves takes
@@ -83,8 +83,8 @@ pub chased_within : (side : Side) (t : TableState) (a b : SeatState) (first now 
 chased_within side t a b first now k l m n h e le = record { own = h.own; advances = h.advances; goes_on = h.goes_on; takes = omega (arith, h.takes); counted = h.counted; cost = omega (arith, h.cost) }
 
 -- a mark word was taken
-pub chased_taken : (side : Side) (t : TableState) (s s' : SeatState) (now : ℕ) → IsSeatOf t s' → Advances side s s' → s' ≡ taken_once s → IsChased side t s s' now now 1 0
-chased_taken side t s s' now own advances e =
+pub chased_taken : (side : Side) (t : TableState) (s s' : SeatState) (now x : ℕ) → IsSeatOf t s' → Advances side s s' → s' ≡ taken_once s x → IsChased side t s s' now now 1 0
+chased_taken side t s s' now x own advances e =
     let on : GoesOn s s' = rw e (record { parts = refl; looked = ([], sym (append-nil s.looked)); renewed = ([], sym (append-nil s.renewed)) }) in
     let loads : s'.loads ≡ s.loads = ap (λ (z : SeatState). z.loads) e in
     let fetches : s'.fetches ≡ s.fetches = ap (λ (z : SeatState). z.fetches) e in
@@ -170,3 +170,26 @@ chased_pass side t a b c first mid now done width most h k =
 -- no more passes than are allowed
 pub passes_cost : (side : Side) (t : TableState) (old new : SeatState) (first now taken done passes most : ℕ) → IsChased side t old new first now taken (done * most) → done ≤ passes → now ≤ first + passes * most
 passes_cost side t old new first now taken done passes most h few = let product : done * most ≤ passes * most = mul-le-mul_right most few in omega (arith, h.cost)
+
+-- the takes in a row that found no bit, after one more of a pass
+pub idle_more : (found b : Bool) (x first idle done : ℕ) → MatchBool found (idle < done) (idle ≡ first + done) → MatchBool b (x ≢ 0) (x ≡ 0) → MatchBool (found || b) (idle_after x idle < done + 1) (idle_after x idle ≡ first + (done + 1))
+idle_more true b zero first idle done h k = omega arith
+idle_more true b (suc x) first idle done h k = omega arith
+idle_more false true zero first idle done h k = absurd (k refl)
+idle_more false true (suc x) first idle done h k = omega arith
+idle_more false false zero first idle done h k = omega arith
+idle_more false false (suc x) first idle done h k = absurd (omega arith)
+
+-- what is known between passes: fewer takes than a pass has found no bit where the last pass found one, and no fewer where it found none
+pub record IsPaced (found : Bool) (width done idle : ℕ) : Type 0 where
+  pub some : found ≡ false → 1 ≤ done
+  pub ends : found ≡ false → width ≤ idle
+  pub goes : found ≡ true → 1 ≤ done → idle < width
+  pub went : 2 ≤ done → idle < 2 * width
+
+pub paced_none : (width idle : ℕ) → IsPaced true width 0 idle
+paced_none width idle = record { some = λ e. absurd (false≢true (sym e)); ends = λ e. absurd (false≢true (sym e)); goes = λ _ h. absurd (omega arith); went = λ h. absurd (omega arith) }
+
+pub paced_more : (found : Bool) (width done idle idle' : ℕ) → IsPaced true width done idle → MatchBool found (idle' < width) (idle' ≡ idle + width) → IsPaced found width (done + 1) idle'
+paced_more true width done idle idle' h k = record { some = λ e. absurd (false≢true (sym e)); ends = λ e. absurd (false≢true (sym e)); goes = λ _ _. k; went = λ _. omega arith }
+paced_more false width done idle idle' h k = record { some = λ _. omega arith; ends = λ _. omega arith; goes = λ e _. absurd (false≢true e); went = λ two. let less : idle < width = h.goes refl (omega arith) in omega arith }

@@ -52,16 +52,17 @@ on_points side points start slots id i me f then' there step s kept homes at fit
     )
 
 -- A step on a word behind them changes none of them.
-behind_points : (side : Side) (points : List Point) (start : List ℕ) (slots id i : ℕ) (me : Me ℕ View) (f : ℕ → ℕ) (w : View) → length points ≤ i
-    → ((words : List ℕ) (views : List View) → Keeps side points start words views → get_elem? views id ≡ some me.0 → Keeps side points start words (set views id w))
-    → Allows (Ruled side points start) slots id me i f (λ x z. (z.1 ≡ me.1) × (z.0 ≡ w))
+behind_points : (side : Side) (points : List Point) (start : List ℕ) (slots id i : ℕ) (me : Me ℕ View) (f : ℕ → ℕ) (w : ℕ → View) → length points ≤ i
+    → ((words : List ℕ) (views : List View) (x : ℕ) → Keeps side points start words views → get_elem? views id ≡ some me.0 → Keeps side points start words (set views id (w x)))
+    → Allows (Ruled side points start) slots id me i f (λ x z. (z.1 ≡ me.1) × (z.0 ≡ w x))
 behind_points side points start slots id i me f w past step s kept homes at fits =
     let n : ℕ = length points in
-    let same : take n s.words ≡ take n (set s.words i (f (slice_index s.words i))) = sym (take-set-le n s.words i (f (slice_index s.words i)) past) in (
-      w,
+    let x : ℕ = slice_index s.words i in
+    let same : take n s.words ≡ take n (set s.words i (f x)) = sym (take-set-le n s.words i (f x) past) in (
+      w x,
       keeps,
       tt,
-      subst (λ (l : List ℕ). Keeps side points start l (set s.views id w)) same (step (take n s.words) s.views kept at),
+      subst (λ (l : List ℕ). Keeps side points start l (set s.views id (w x))) same (step (take n s.words) s.views x kept at),
       (refl, refl),
     )
 
@@ -150,12 +151,12 @@ learns_allowed side points start slots id i me there unspent =
     ))
 
 -- one take more changes nothing that the rule speaks of
-taken_in_step : (side : Side) (points : List Point) (start words : List ℕ) (v : View) → IsInStep side points start words v → IsInStep side points start words (taken v)
-taken_in_step side points start words v h = record { same_system = h.same_system; same_start = h.same_start; in_boxes = h.in_boxes; started = h.started; behind = h.behind }
+taken_in_step : (side : Side) (points : List Point) (start words : List ℕ) (v : View) (x : ℕ) → IsInStep side points start words v → IsInStep side points start words (taken v x)
+taken_in_step side points start words v x h = record { same_system = h.same_system; same_start = h.same_start; in_boxes = h.in_boxes; started = h.started; behind = h.behind }
 
-keeps_taken : (side : Side) (points : List Point) (start words : List ℕ) (views : List View) (id : ℕ) (v : View) → v.spent ≡ false → Keeps side points start words views → get_elem? views id ≡ some v → Keeps side points start words (set views id (taken v))
-keeps_taken side points start words views id v unspent kept at =
-    let all : all_moves (set views id (taken v)) ≡ all_moves views = omega (arith, all_moves-set views id v (taken v) at) in
+keeps_taken : (side : Side) (points : List Point) (start words : List ℕ) (views : List View) (id : ℕ) (v : View) (x : ℕ) → v.spent ≡ false → Keeps side points start words views → get_elem? views id ≡ some v → Keeps side points start words (set views id (taken v x))
+keeps_taken side points start words views id v x unspent kept at =
+    let all : all_moves (set views id (taken v x)) ≡ all_moves views = omega (arith, all_moves-set views id v (taken v x) at) in
     record {
       valid = kept.valid;
       start_boxes = kept.start_boxes;
@@ -163,23 +164,23 @@ keeps_taken side points start words views id v unspent kept at =
       started = kept.started;
       first = kept.first;
       each = λ k z here free. ⊎_elim
-          (λ same. subst (λ (y : View). IsInStep side points start words y) same.1 (taken_in_step side points start words v (kept.each id v at unspent)))
+          (λ same. subst (λ (y : View). IsInStep side points start words y) same.1 (taken_in_step side points start words v x (kept.each id v at unspent)))
           (λ old. kept.each k z old.1 free)
-          (at_set views id k (taken v) z here);
-      seen = λ j inside. ⊎_elim (λ unmoved. inl unmoved) (λ some. inr (seen_at_set views id v (taken v) j (slice_index words j) at unspent refl some)) (kept.seen j inside);
+          (at_set views id k (taken v x) z here);
+      seen = λ j inside. ⊎_elim (λ unmoved. inl unmoved) (λ some. inr (seen_at_set views id v (taken v x) j (slice_index words j) at unspent refl some)) (kept.seen j inside);
       counted = omega (arith, kept.counted);
       paid = omega (arith, kept.paid);
     }
 
 -- a swap of a mark word
-pub takes_allowed : (side : Side) (points : List Point) (start : List ℕ) (slots id i : ℕ) (me : Me ℕ View) → length points ≤ i → me.0.spent ≡ false → Allows (Ruled side points start) slots id me i (λ _. 0) (λ x w. (w.1 ≡ me.1) × (w.0 ≡ taken me.0))
+pub takes_allowed : (side : Side) (points : List Point) (start : List ℕ) (slots id i : ℕ) (me : Me ℕ View) → length points ≤ i → me.0.spent ≡ false → Allows (Ruled side points start) slots id me i (λ _. 0) (λ x w. (w.1 ≡ me.1) × (w.0 ≡ taken me.0 x))
 takes_allowed side points start slots id i me past unspent =
-    behind_points side points start slots id i me (λ _. 0) (taken me.0) past (λ words views kept at. keeps_taken side points start words views id me.0 unspent kept at)
+    behind_points side points start slots id i me (λ _. 0) (taken me.0) past (λ words views x kept at. keeps_taken side points start words views id me.0 x unspent kept at)
 
 -- a fetch_or on a mark word
 pub marks_allowed : (side : Side) (points : List Point) (start : List ℕ) (slots id i k : ℕ) (me : Me ℕ View) → length points ≤ i → Allows (Ruled side points start) slots id me i (λ n. bit_or n k) (λ x w. (w.1 ≡ me.1) × (w.0 ≡ me.0))
 marks_allowed side points start slots id i k me past =
-    behind_points side points start slots id i me (λ n. bit_or n k) me.0 past (λ words views kept at. let same : set views id me.0 ≡ views = set_again views id me.0 at in rw same kept)
+    behind_points side points start slots id i me (λ n. bit_or n k) (λ _. me.0) past (λ words views x kept at. let same : set views id me.0 ≡ views = set_again views id me.0 at in rw same kept)
 
 pub splits_allowed : (side : Side) (points : List Point) (start : List ℕ) (id : ℕ) (v : View) → v.spent ≡ false → Splits (Ruled side points start) id v v (sprout v)
 splits_allowed side points start id v unspent s kept at =

@@ -1,5 +1,5 @@
 -- What clauses see of a table and of a seat.
-use Rattle.std.specs.Prelude.{◌≡◌, ◌≢◌, ℕ, ◌+◌, ◌-◌, ◌*◌, ◌/◌, ◌≤◌, List, ◌++◌, length, map, take, drop, sum_by, All}
+use Rattle.std.specs.Prelude.{◌≡◌, ◌≢◌, ℕ, ◌+◌, ◌-◌, ◌*◌, ◌/◌, ◌<◌, ◌≤◌, zero, suc, List, ◌++◌, length, map, take, drop, sum_by, All}
 use Rattle.std.specs.List.{range_with_len, flat_map}
 use Rattle.atomic_table.specs.Seated.{TableId}
 use Rattle.relax_system.specs.declared.side.Side.{Side}
@@ -17,8 +17,8 @@ pub record TableState : Type 0 where
 
 -- A seat's table with its system and start, what the seat has seen, and what it did: the points whose words it loaded and
 -- those whose words it fetched, each in order, how many loads and fetches these are, and the moves, which are the fetches
--- that changed a word. Then its takes, which are its swaps of mark words, how many seats it is made of, and the word that its
--- last load or fetch found.
+-- that changed a word. Then its takes, which are its swaps of mark words, and how many of them found no bit since the last that
+-- found one. Then how many seats it is made of, and the word that its last load or fetch found.
 pub record SeatState : Type 0 where
   pub table : TableId
   pub system : List Point
@@ -30,6 +30,7 @@ pub record SeatState : Type 0 where
   pub fetches : ℕ
   pub moves : ℕ
   pub takes : ℕ
+  pub idle : ℕ
   pub parts : ℕ
   pub found : ℕ
 
@@ -75,17 +76,25 @@ pub record GoesOn (old new : SeatState) : Type 0 where
 abbrev pub mark_words : ℕ → ℕ
 mark_words n = (n + 63) / 64
 
--- the same seat with one take more
-abbrev pub taken_once : SeatState → SeatState
-taken_once s = record s { takes = s.takes + 1 }
+-- how many takes in a row found no bit, after one more that found x
+abbrev pub idle_after : ℕ → ℕ → ℕ
+idle_after zero idle = idle + 1
+idle_after (suc x) idle = 0
+
+-- the same seat with one take more, which found x
+abbrev pub taken_once : SeatState → ℕ → SeatState
+taken_once s x = record s { takes = s.takes + 1; idle = idle_after x s.idle }
 
 -- Its takes grew by whole passes over the mark words from the one number to before the other: by one pass at least where one is
--- allowed, and by no more than are allowed.
+-- allowed, and by no more than are allowed. Where it made fewer than are allowed, its last pass found no bit; and it made a pass more
+-- only after one that found a bit.
 pub record TakesPasses (passes from to : ℕ) (old new : SeatState) : Type 0 where
   pub done : ℕ
   pub takes : new.takes ≡ old.takes + done * (to - from)
   pub most : done ≤ passes
   pub some : 1 ≤ passes → 1 ≤ done
+  pub ends : done < passes → to - from ≤ new.idle
+  pub goes : 2 ≤ done → new.idle < 2 * (to - from)
 
 -- the numbers from the one to before the other
 abbrev pub numbers_between : ℕ → ℕ → List ℕ

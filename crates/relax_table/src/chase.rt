@@ -1,6 +1,6 @@
 //! Chases: a seat takes marked points in place of sweeping over all, and marks the neighbours of each point that it moved.
 
-ghost use Rattle.std.specs.Prelude.{◌≡◌, ℕ, ◌+◌, ◌-◌, ◌*◌, ◌<◌, ◌≤◌, min, length};
+ghost use Rattle.std.specs.Prelude.{◌≡◌, ℕ, ◌+◌, ◌-◌, ◌*◌, ◌<◌, ◌≤◌, min, length, MatchBool};
 ghost use Rattle.relax_system.specs.System.{point_at};
 ghost use Rattle.relax_table.specs.Seats.{IsSeatOf, Advances, GoesOn, TakesPasses, mark_words, taken_once, sweep_steps};
 ghost use Rattle.relax_table.specs.Forms.Chase.{IsChased};
@@ -8,7 +8,7 @@ ghost use Rattle.relax_table.specs.declared.chase.TheConstants.{MOST_PASSES};
 
 use crate::direction::Direction;
 use crate::marks::MARKS;
-use crate::relax::either;
+use crate::relax::{differs, either};
 use crate::rule::{Marks, Takes};
 use crate::seat::SideSeat;
 use crate::steps::Steps;
@@ -61,13 +61,14 @@ impl<'a, D: Direction> SideTable<'a, D> {
         requires own { IsSeatOf self.now seat.old }
         requires order { from ≤ to }
         requires within { to ≤ mark_words (length self.now.system) }
-        ensures { IsChased D.side self.now seat.old seat.new steps.old steps.new (to - from) (sweep_steps self.now.system (64 * from) (min (64 * to) (length self.now.system))) }
+        ensures chased { IsChased D.side self.now seat.old seat.new steps.old steps.new (to - from) (sweep_steps self.now.system (64 * from) (min (64 * to) (length self.now.system))) }
+        ensures idle { MatchBool result (seat.new.idle < to - from) (seat.new.idle ≡ seat.old.idle + (to - from)) }
     {
         seat.know();
         let mut found = false;
         for word in from..to {
             let marks = self.take(seat, word);
-            found = either(found, marks != 0);
+            found = either(found, differs(marks, 0));
             self.relax_marked(seat, word, marks, steps);
         }
         found
@@ -84,7 +85,8 @@ impl<'a, D: Direction> SideTable<'a, D> {
     )
         requires own { IsSeatOf self.now seat.old }
         requires word { word < mark_words (length self.now.system) }
-        ensures { IsChased D.side self.now seat.old seat.new steps.old steps.new 0 (sweep_steps self.now.system (64 * word) (min (64 * (word + 1)) (length self.now.system))) }
+        ensures chased { IsChased D.side self.now seat.old seat.new steps.old steps.new 0 (sweep_steps self.now.system (64 * word) (min (64 * (word + 1)) (length self.now.system))) }
+        ensures idle { seat.new.idle ≡ seat.old.idle }
     {
         seat.know();
         let first = word * MARKS;
@@ -103,7 +105,8 @@ impl<'a, D: Direction> SideTable<'a, D> {
     #[inline(always)]
     fn relax_there<L: Ledger>(&self, seat: &mut SideSeat<D>, i: usize, steps: &mut Steps<L>)
         requires own { IsSeatOf self.now seat.old }
-        ensures { IsChased D.side self.now seat.old seat.new steps.old steps.new 0 (sweep_steps self.now.system (min i (length self.now.system)) (min (i + 1) (length self.now.system))) }
+        ensures chased { IsChased D.side self.now seat.old seat.new steps.old steps.new 0 (sweep_steps self.now.system (min i (length self.now.system)) (min (i + 1) (length self.now.system))) }
+        ensures idle { seat.new.idle ≡ seat.old.idle }
     {
         seat.know();
         if i < self.system.points() {
@@ -116,7 +119,8 @@ impl<'a, D: Direction> SideTable<'a, D> {
     fn relax_and_mark<L: Ledger>(&self, seat: &mut SideSeat<D>, i: usize, steps: &mut Steps<L>)
         requires own { IsSeatOf self.now seat.old }
         requires point { i < length self.now.system }
-        ensures { IsChased D.side self.now seat.old seat.new steps.old steps.new 0 (length (point_at self.now.system i).near + 1) }
+        ensures chased { IsChased D.side self.now seat.old seat.new steps.old steps.new 0 (length (point_at self.now.system i).near + 1) }
+        ensures idle { seat.new.idle ≡ seat.old.idle }
     {
         let fetch = self.relax_side(seat, i, steps).fetch;
         if fetch.old != fetch.new {
@@ -156,7 +160,7 @@ impl<'a, D: Direction> SideTable<'a, D> {
         requires word { word < mark_words (length self.now.system) }
         ensures own { IsSeatOf self.now seat.new }
         ensures advances { Advances D.side seat.old seat.new }
-        ensures taken { seat.new ≡ taken_once seat.old }
+        ensures taken { seat.new ≡ taken_once seat.old result }
     {
         let place = self.system.points() + word;
         let marks = self.table.shared.swap::<Takes>(&mut seat.seat, place, 0);

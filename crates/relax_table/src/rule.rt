@@ -31,6 +31,8 @@ pub struct View {
     pub moves: u64,
     /// The swaps of mark words.
     pub takes: u64,
+    /// Those of them that found no bit, since the last that found one.
+    pub idle: u64,
     /// How many seats it is made of.
     pub parts: u64,
     /// The word that its last load or fetch found.
@@ -98,7 +100,7 @@ impl<S> Play<S, View> for Takes {
     ghost use Rattle.std.specs.Prelude.{◌≡◌};
     ghost use Rattle.relax_table.specs.Forms.Rule.{taken};
 
-    ghost then = { λ s v x w. (w.1 ≡ v.1) × (w.0 ≡ taken v.0) };
+    ghost then = { λ s v x w. (w.1 ≡ v.1) × (w.0 ≡ taken v.0 x) };
 }
 
 /// A `fetch_or` on a mark word, which leaves the view as it is.

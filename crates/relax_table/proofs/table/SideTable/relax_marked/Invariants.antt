@@ -1,4 +1,4 @@
-use Rattle.std.proofs.Common.{◌+◌, ◌-◌, ◌*◌, ◌^◌, ◌<◌, ◌≤◌, min, length}
+use Rattle.std.proofs.Common.{◌≡◌, ◌+◌, ◌-◌, ◌*◌, ◌^◌, ◌<◌, ◌≤◌, min, length}
 use Rattle.relax_table.specs.Seats.{sweep_steps}
 use Rattle.relax_table.specs.Forms.Chase.{IsChased}
 use Rattle.relax_table.proofs.table.SideTable.relax_marked.Given as goal
@@ -7,6 +7,7 @@ use Rattle.relax_table.proofs.table.SideTable.relax_marked.Given as goal
 abbrev pub invariant-bits : goal.invariant-bits
 invariant-bits g l = record {
   chased : IsChased g.D.Direction.side l.self l.initial.seat l.seat l.initial.steps l.steps 0 (sweep_steps l.self.system (64 * l.word) (min (64 * l.word + l.at) (length l.self.system)));
+  idle : l.seat.idle ≡ l.initial.seat.idle;
   few : l.at ≤ 64;
   bits : l.left < 2 ^ (64 - l.at);
 }
