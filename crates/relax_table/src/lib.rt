@@ -5,6 +5,9 @@
 //! `fetch_max` (or `fetch_min`) of the rounded mean of what it has seen. What it has seen may be long outdated. Whatever
 //! the interleaving, a seat that is quiet by its own values has seen the least (or greatest) vector.
 //!
+//! Behind the words of the points stand mark words, with a bit for each point. A chase takes marked points in place of sweeping
+//! over all, and marks the neighbours of each point that it moved.
+//!
 //! A call waits for no other thread, and only `new` and `split` can be refused, for memory. Each call with a seat has the
 //! condition that the seat is of this table, each call with a point that the point is there.
 #![tactic(auto)]
