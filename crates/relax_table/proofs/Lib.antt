@@ -6,4 +6,6 @@ pub mod Moves
 pub mod Seated
 pub mod Ranges
 pub mod Sweeps
+pub mod Marking
+pub mod Chases
 pub mod Literal

@@ -1,6 +1,8 @@
 -- Each kind of step keeps the rule of a table, and leaves what it says.
-use Rattle.std.proofs.Common.{◌≡◌, ℕ, ◌<◌, ◌≤◌, max, min, List, [], ◌∷◌, ◌++◌, length, zero, suc, set, false, refl, sym, ap, ◌∙◌, subst, ⊎_elim, inl, inr, arith}
+use Rattle.std.proofs.Common.{◌≡◌, ℕ, ◌<◌, ◌≤◌, max, min, bit_or, List, [], ◌∷◌, ◌++◌, length, zero, suc, set, take, false, refl, sym, ap, ◌∙◌, subst, ⊎_elim, inl, inr, arith}
 use Rattle.std.specs.List.{slice_index}
+use Rattle.std.proofs.lemmas.List.{get_or-take, take-set-le}
+use Rattle.std.proofs.Math.Seq.{take-set-lt}
 use Rattle.std.proofs.lemmas.List.Sums.{sum_by-append}
 use Rattle.std.proofs.lemmas.Bool.{false≢true}
 use mathlib.Core.Option.{some, some-ne-none, some-injective}
@@ -21,16 +23,48 @@ use Rattle.relax_table.specs.Ways.{IsQuietVector}
 use Rattle.relax_table.specs.Step.{word_after}
 use Rattle.relax_table.specs.Step.Kind.{Load, Renew}
 use Rattle.relax_table.specs.Seats.{IsSound}
-use Rattle.relax_table.specs.Forms.Rule.{state_of, all_moves, IsInStep, Keeps, stepped_view, Stepped, Learned, sprout, joined, gone, opened}
+use Rattle.relax_table.specs.Forms.Rule.{state_of, all_moves, IsInStep, Keeps, stepped_view, Stepped, Learned, taken, sprout, joined, gone, opened}
 use Rattle.relax_system.proofs.Ways.{further-first, further-within, further-low, further-high}
 use Rattle.relax_table.proofs.Numbers.{counted_apart, past-self, further-is_first, further-is_second}
 use Rattle.relax_table.proofs.Vectors.{AllBefore-refl, at_furthest, length-furthest}
-use Rattle.relax_table.proofs.Seen.{there_of, seen_at_snoc, seen_at_join, moved_words-self}
+use Rattle.relax_table.proofs.Seen.{there_of, seen_at_set, seen_at_snoc, seen_at_join, moved_words-self}
 use Rattle.relax_table.proofs.Sounds.{sound_of, IsMove, keeps_moved, moved_in_step, all_moves-set}
 
 -- the rule, as a fact about the state of a table
 abbrev pub Ruled : Side → List Point → List ℕ → State ℕ View → Type 0
-Ruled side points start s = Keeps side points start s.words s.views
+Ruled side points start s = Keeps side points start (take (length points) s.words) s.views
+
+-- A step on the word of a point is one on the words of points alone.
+on_points : (side : Side) (points : List Point) (start : List ℕ) (slots id i : ℕ) (me : Me ℕ View) (f : ℕ → ℕ) (then' : ℕ → Me ℕ View → Type 0) → i < length points
+    → ((words : List ℕ) (views : List View) → Keeps side points start words views → get_elem? views id ≡ some me.0 → (w : View) × Keeps side points start (set words i (f (slice_index words i))) (set views id w) × then' (slice_index words i) (w, me.1))
+    → Allows (Ruled side points start) slots id me i f then'
+on_points side points start slots id i me f then' there step s kept homes at fits =
+    let n : ℕ = length points in
+    let h = step (take n s.words) s.views kept at in
+    let found : slice_index (take n s.words) i ≡ slice_index s.words i = get_or-take n s.words i 0 there in
+    let put : set (take n s.words) i (f (slice_index (take n s.words) i)) ≡ take n (set s.words i (f (slice_index s.words i))) =
+    ap (λ (x : ℕ). set (take n s.words) i (f x)) found ∙ sym (take-set-lt n s.words i (f (slice_index s.words i)) there) in (
+      h.0,
+      keeps,
+      tt,
+      subst (λ (l : List ℕ). Keeps side points start l (set s.views id h.0)) put h.1,
+      subst (λ (x : ℕ). then' x (h.0, me.1)) found h.2,
+    )
+
+-- A step on a word behind them changes none of them.
+behind_points : (side : Side) (points : List Point) (start : List ℕ) (slots id i : ℕ) (me : Me ℕ View) (f : ℕ → ℕ) (w : ℕ → View) → length points ≤ i
+    → ((words : List ℕ) (views : List View) (x : ℕ) → Keeps side points start words views → get_elem? views id ≡ some me.0 → Keeps side points start words (set views id (w x)))
+    → Allows (Ruled side points start) slots id me i f (λ x z. (z.1 ≡ me.1) × (z.0 ≡ w x))
+behind_points side points start slots id i me f w past step s kept homes at fits =
+    let n : ℕ = length points in
+    let x : ℕ = slice_index s.words i in
+    let same : take n s.words ≡ take n (set s.words i (f x)) = sym (take-set-le n s.words i (f x) past) in (
+      w x,
+      keeps,
+      tt,
+      subst (λ (l : List ℕ). Keeps side points start l (set s.views id (w x))) same (step (take n s.words) s.views x kept at),
+      (refl, refl),
+    )
 
 load_move : (side : Side) (points : List Point) (start words : List ℕ) (views : List View) (i : ℕ) (v : View) → Keeps side points start words views → i < length points → IsMove side points words i (slice_index words i) v (stepped_view side Load i v (slice_index words i))
 load_move side points start words views i v kept there = record {
@@ -81,44 +115,72 @@ sound_moved side points start words views id i x v w name kept at free step move
 
 pub loads_allowed : (side : Side) (points : List Point) (start : List ℕ) (slots id i : ℕ) (me : Me ℕ View) → i < length points → me.0.spent ≡ false
     → Allows (Ruled side points start) slots id me i (λ n. n) (λ x w. (w.1 ≡ me.1) × Stepped side Load i me.0 x w.0)
-loads_allowed side points start slots id i me there unspent s kept homes at fits =
-    let x : ℕ = slice_index s.words i in
+loads_allowed side points start slots id i me there unspent =
+    on_points side points start slots id i me (λ n. n) (λ x w. (w.1 ≡ me.1) × Stepped side Load i me.0 x w.0) there (λ words views kept at.
+    let x : ℕ = slice_index words i in
     let step = kept.each id me.0 at unspent in
-    let move = load_move side points start s.words s.views i me.0 kept there in (
+    let move = load_move side points start words views i me.0 kept there in (
       stepped_view side Load i me.0 x,
-      keeps,
-      tt,
-      keeps_moved side points start s.words s.views id i x me.0 _ kept at unspent step move,
-      (refl, record { view = refl; found = step.behind i; sound = λ name. sound_moved side points start s.words s.views id i x me.0 _ name kept at unspent step move }),
-    )
+      keeps_moved side points start words views id i x me.0 _ kept at unspent step move,
+      (refl, record { view = refl; found = step.behind i; sound = λ name. sound_moved side points start words views id i x me.0 _ name kept at unspent step move }),
+    ))
 
 pub renews_allowed : (side : Side) (points : List Point) (start : List ℕ) (slots id i m : ℕ) (me : Me ℕ View) → i < length points → me.0.spent ≡ false → m ≡ mean_of side me.0.system i me.0.seen
     → Allows (Ruled side points start) slots id me i (λ n. further_of side n m) (λ x w. (w.1 ≡ me.1) × Stepped side Renew i me.0 x w.0)
-renews_allowed side points start slots id i m me there unspent e s kept homes at fits =
-    let x : ℕ = slice_index s.words i in
+renews_allowed side points start slots id i m me there unspent e =
+    on_points side points start slots id i me (λ n. further_of side n m) (λ x w. (w.1 ≡ me.1) × Stepped side Renew i me.0 x w.0) there (λ words views kept at.
+    let x : ℕ = slice_index words i in
     let step = kept.each id me.0 at unspent in
-    let move = renew_move side points start s.words s.views i me.0 kept step there in (
+    let move = renew_move side points start words views i me.0 kept step there in (
       stepped_view side Renew i me.0 x,
-      keeps,
-      tt,
-      rw e (keeps_moved side points start s.words s.views id i _ me.0 _ kept at unspent step move),
-      (refl, record { view = refl; found = step.behind i; sound = λ name. sound_moved side points start s.words s.views id i _ me.0 _ name kept at unspent step move }),
-    )
+      rw e (keeps_moved side points start words views id i _ me.0 _ kept at unspent step move),
+      (refl, record { view = refl; found = step.behind i; sound = λ name. sound_moved side points start words views id i _ me.0 _ name kept at unspent step move }),
+    ))
 
 -- a load that leaves the view as it is
 pub learns_allowed : (side : Side) (points : List Point) (start : List ℕ) (slots id i : ℕ) (me : Me ℕ View) → i < length points → me.0.spent ≡ false
     → Allows (Ruled side points start) slots id me i (λ n. n) (λ x w. (w.1 ≡ me.1) × Learned side me.0 w.0)
-learns_allowed side points start slots id i me there unspent s kept homes at fits =
-    let x : ℕ = slice_index s.words i in
+learns_allowed side points start slots id i me there unspent =
+    on_points side points start slots id i me (λ n. n) (λ x w. (w.1 ≡ me.1) × Learned side me.0 w.0) there (λ words views kept at.
     let step = kept.each id me.0 at unspent in
-    let words : set s.words i x ≡ s.words = set-get_or s.words i 0 in
-    let views : set s.views id me.0 ≡ s.views = set_again s.views id me.0 at in (
+    let same : set words i (slice_index words i) ≡ words = set-get_or words i 0 in
+    let same' : set views id me.0 ≡ views = set_again views id me.0 at in (
       me.0,
-      keeps,
-      tt,
-      rw (words, views) kept,
-      (refl, record { view = refl; sound = λ name. sound_of side points start s.words s.views id me.0 name kept at step }),
-    )
+      rw (same, same') kept,
+      (refl, record { view = refl; sound = λ name. sound_of side points start words views id me.0 name kept at step }),
+    ))
+
+-- one take more changes nothing that the rule speaks of
+taken_in_step : (side : Side) (points : List Point) (start words : List ℕ) (v : View) (x : ℕ) → IsInStep side points start words v → IsInStep side points start words (taken v x)
+taken_in_step side points start words v x h = record { same_system = h.same_system; same_start = h.same_start; in_boxes = h.in_boxes; started = h.started; behind = h.behind }
+
+keeps_taken : (side : Side) (points : List Point) (start words : List ℕ) (views : List View) (id : ℕ) (v : View) (x : ℕ) → v.spent ≡ false → Keeps side points start words views → get_elem? views id ≡ some v → Keeps side points start words (set views id (taken v x))
+keeps_taken side points start words views id v x unspent kept at =
+    let all : all_moves (set views id (taken v x)) ≡ all_moves views = omega (arith, all_moves-set views id v (taken v x) at) in
+    record {
+      valid = kept.valid;
+      start_boxes = kept.start_boxes;
+      in_boxes = kept.in_boxes;
+      started = kept.started;
+      first = kept.first;
+      each = λ k z here free. ⊎_elim
+          (λ same. subst (λ (y : View). IsInStep side points start words y) same.1 (taken_in_step side points start words v x (kept.each id v at unspent)))
+          (λ old. kept.each k z old.1 free)
+          (at_set views id k (taken v x) z here);
+      seen = λ j inside. ⊎_elim (λ unmoved. inl unmoved) (λ some. inr (seen_at_set views id v (taken v x) j (slice_index words j) at unspent refl some)) (kept.seen j inside);
+      counted = omega (arith, kept.counted);
+      paid = omega (arith, kept.paid);
+    }
+
+-- a swap of a mark word
+pub takes_allowed : (side : Side) (points : List Point) (start : List ℕ) (slots id i : ℕ) (me : Me ℕ View) → length points ≤ i → me.0.spent ≡ false → Allows (Ruled side points start) slots id me i (λ _. 0) (λ x w. (w.1 ≡ me.1) × (w.0 ≡ taken me.0 x))
+takes_allowed side points start slots id i me past unspent =
+    behind_points side points start slots id i me (λ _. 0) (taken me.0) past (λ words views x kept at. keeps_taken side points start words views id me.0 x unspent kept at)
+
+-- a fetch_or on a mark word
+pub marks_allowed : (side : Side) (points : List Point) (start : List ℕ) (slots id i k : ℕ) (me : Me ℕ View) → length points ≤ i → Allows (Ruled side points start) slots id me i (λ n. bit_or n k) (λ x w. (w.1 ≡ me.1) × (w.0 ≡ me.0))
+marks_allowed side points start slots id i k me past =
+    behind_points side points start slots id i me (λ n. bit_or n k) (λ _. me.0) past (λ words views x kept at. let same : set views id me.0 ≡ views = set_again views id me.0 at in rw same kept)
 
 pub splits_allowed : (side : Side) (points : List Point) (start : List ℕ) (id : ℕ) (v : View) → v.spent ≡ false → Splits (Ruled side points start) id v v (sprout v)
 splits_allowed side points start id v unspent s kept at =
@@ -133,10 +195,10 @@ splits_allowed side points start id v unspent s kept at =
       first = kept.first;
       each = λ k z here free. ⊎_elim
           (λ old. kept.each k z old free)
-          (λ same. subst (λ (y : View). IsInStep side points start s.words y) same
+          (λ same. subst (λ (y : View). IsInStep side points start (take (length points) s.words) y) same
           (record { same_system = step.same_system; same_start = step.same_start; in_boxes = step.in_boxes; started = step.started; behind = step.behind }))
           (at_snoc s.views (sprout v) z k here);
-      seen = λ j inside. ⊎_elim (λ unmoved. inl unmoved) (λ some. inr (seen_at_snoc s.views (sprout v) j (slice_index s.words j) some)) (kept.seen j inside);
+      seen = λ j inside. ⊎_elim (λ unmoved. inl unmoved) (λ some. inr (seen_at_snoc s.views (sprout v) j (slice_index (take (length points) s.words) j) some)) (kept.seen j inside);
       counted = omega (arith, kept.counted);
       paid = omega (arith, kept.paid);
     })
@@ -191,7 +253,7 @@ joins_allowed side points start id v other w free free' s kept at apart' at' =
     let at'' : get_elem? s.views other ≡ some w = sym (set_else s.views id other (joined side v w) apart') ∙ at' in
     let first = kept.each id v at free in
     let second = kept.each other w at'' free' in
-    let both = joined_in_step side points start s.words v w first second in
+    let both = joined_in_step side points start (take (length points) s.words) v w first second in
     let same : length v.seen ≡ length w.seen = omega (arith, first.in_boxes.all, second.in_boxes.all) in
     record {
       valid = kept.valid;
@@ -202,13 +264,13 @@ joins_allowed side points start id v other w free free' s kept at apart' at' =
       each = λ k z here unspent. ⊎_elim
           (λ same. absurd (false≢true (sym unspent ∙ sym (ap (λ (y : View). y.spent) same.1))))
           (λ rest. ⊎_elim
-          (λ same. subst (λ (y : View). IsInStep side points start s.words y) same.1 both)
+          (λ same. subst (λ (y : View). IsInStep side points start (take (length points) s.words) y) same.1 both)
           (λ old. kept.each k z old.1 unspent)
           (at_set s.views id k (joined side v w) z rest.1))
           (at_set (set s.views id (joined side v w)) other k gone z here);
       seen = λ j inside. ⊎_elim
           (λ unmoved. inl unmoved)
-          (λ some. inr (seen_at_join s.views id other v w (joined side v w) gone j (slice_index s.words j) at at'' apart' free
+          (λ some. inr (seen_at_join s.views id other v w (joined side v w) gone j (slice_index (take (length points) s.words) j) at at'' apart' free
           (λ e. at_furthest side v.seen w.seen j same ∙ further-is_first side _ _ _ e (second.behind j))
           (λ e. at_furthest side v.seen w.seen j same ∙ further-is_second side _ _ _ e (first.behind j))
           some))

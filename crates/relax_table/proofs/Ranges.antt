@@ -29,18 +29,20 @@ once_none points from s = record {
   parts = refl;
   looked = sym (ap (λ (l : List ℕ). s.looked ++ flat_map (near_numbers points) l) (between_none from) ∙ append-nil s.looked);
   renewed = sym (ap (λ (l : List ℕ). s.renewed ++ l) (between_none from) ∙ append-nil s.renewed);
+  takes = refl;
 }
 
 pub once_more : (points : List Point) (from i : ℕ) (old mid new : SeatState) → from ≤ i → SweepsOnce points from i old mid
-    → (new.looked ≡ mid.looked ++ near_numbers points i) × (new.renewed ≡ mid.renewed ++ i ∷ []) × (new.parts ≡ mid.parts) → SweepsOnce points from (i + 1) old new
+    → (new.looked ≡ mid.looked ++ near_numbers points i) × (new.renewed ≡ mid.renewed ++ i ∷ []) × (new.parts ≡ mid.parts) × (new.takes ≡ mid.takes) → SweepsOnce points from (i + 1) old new
 once_more points from i old mid new order h points' = record {
   parts = points'.2 ∙ h.parts;
   looked = rw (points'.0, h.looked, nears_more points from i order) (append_assoc old.looked (nears_between points from i) (near_numbers points i));
   renewed = rw (points'.1, h.renewed, between_more from i order) (append_assoc old.renewed (numbers_between from i) (i ∷ []));
+  takes = points'.3 ∙ h.takes;
 }
 
 pub once_continues : (points : List Point) (from to : ℕ) (old new : SeatState) → SweepsOnce points from to old new → Continues old new
-once_continues points from to old new h = record { parts = h.parts; looked = (nears_between points from to, h.looked); renewed = (numbers_between from to, h.renewed) }
+once_continues points from to old new h = record { parts = h.parts; looked = (nears_between points from to, h.looked); renewed = (numbers_between from to, h.renewed); takes = h.takes }
 
 -- no step was made, or a sweep came first
 abbrev pub HasBegun : List Point → ℕ → ℕ → SeatState → SeatState → Type 0

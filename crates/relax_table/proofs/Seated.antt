@@ -1,5 +1,5 @@
 -- A seat between calls: what a step leaves of it.
-use Rattle.std.proofs.Common.{◌≡◌, ℕ, ◌+◌, ◌-◌, ◌*◌, ◌^◌, ◌<◌, ◌≤◌, List, [], ◌++◌, append_assoc, length, set, refl, sym, ap, ◌∙◌, arith}
+use Rattle.std.proofs.Common.{◌≡◌, ℕ, ◌+◌, ◌-◌, ◌*◌, ◌^◌, ◌<◌, ◌≤◌, min, List, [], ◌++◌, append_assoc, length, set, refl, sym, ap, ◌∙◌, arith}
 use Rattle.std.specs.List.{slice_index}
 use Rattle.std.proofs.lemmas.List.{get_or-set_same, append-nil}
 use Rattle.atomic_table.specs.Seated.{TableId}
@@ -20,19 +20,21 @@ use Rattle.relax_system.proofs.Ways.{further-first, further-second, apart-within
 use Rattle.relax_system.proofs.Distances.{distance-wide}
 use Rattle.relax_table.proofs.Vectors.{AllBefore-refl, AllBefore-trans, AllBefore-set, mean_of-set, at_furthest}
 
-pub held_loaded : (side : Side) (id id' : TableId) (v w : View) (seen : List ℕ) (moves i x : ℕ) → IsHeld side id v seen moves → Stepped side Load i v x w → IsHeld side id' w (set seen i x) moves
-held_loaded side id id' v w seen moves i x held stepped = record {
+pub held_loaded : (side : Side) (id id' : TableId) (v w : View) (seen : List ℕ) (moves takes i x : ℕ) → IsHeld side id v seen moves takes → Stepped side Load i v x w → IsHeld side id' w (set seen i x) moves takes
+held_loaded side id id' v w seen moves takes i x held stepped = record {
   same_seen = rw stepped.view (ap (λ (s : List ℕ). set s i x) held.same_seen);
   same_moves = rw stepped.view held.same_moves;
+  same_takes = rw stepped.view held.same_takes;
   unspent = rw stepped.view held.unspent;
   sound = stepped.sound id';
 }
 
-pub held_renewed : (side : Side) (id id' : TableId) (v w : View) (seen : List ℕ) (moves moves' i x y : ℕ) → IsHeld side id v seen moves → Stepped side Renew i v x w → y ≡ word_after side v.system Renew i x v.seen → moves' ≡ moves + one_if (is_past side x y)
-    → IsHeld side id' w (set seen i y) moves'
-held_renewed side id id' v w seen moves moves' i x y held stepped e f = record {
+pub held_renewed : (side : Side) (id id' : TableId) (v w : View) (seen : List ℕ) (moves moves' takes i x y : ℕ) → IsHeld side id v seen moves takes → Stepped side Renew i v x w → y ≡ word_after side v.system Renew i x v.seen → moves' ≡ moves + one_if (is_past side x y)
+    → IsHeld side id' w (set seen i y) moves' takes
+held_renewed side id id' v w seen moves moves' takes i x y held stepped e f = record {
   same_seen = rw (stepped.view, e) (ap (λ (s : List ℕ). set s i (word_after side v.system Renew i x v.seen)) held.same_seen);
   same_moves = rw (stepped.view, f, e, held.same_moves) refl;
+  same_takes = rw stepped.view held.same_takes;
   unspent = rw stepped.view held.unspent;
   sound = stepped.sound id';
 }
@@ -42,7 +44,7 @@ advances_loaded side id id' v w i x same there stepped = record {
   same_table = same;
   same_system = ap (λ (z : View). z.system) stepped.view;
   same_start = ap (λ (z : View). z.start) stepped.view;
-  counts = rw stepped.view (record { loads = omega arith; fetches = omega arith; moves = omega arith });
+  counts = rw stepped.view (record { loads = omega arith; fetches = omega arith; moves = omega arith; takes = omega arith });
   further = rw stepped.view (AllBefore-set side v.seen v.seen i x (AllBefore-refl side v.seen) there stepped.found);
   sound = stepped.sound id';
 }
@@ -52,7 +54,7 @@ advances_renewed side id id' v w i x same there stepped = record {
   same_table = same;
   same_system = ap (λ (z : View). z.system) stepped.view;
   same_start = ap (λ (z : View). z.start) stepped.view;
-  counts = rw stepped.view (record { loads = omega arith; fetches = omega arith; moves = omega arith });
+  counts = rw stepped.view (record { loads = omega arith; fetches = omega arith; moves = omega arith; takes = omega arith });
   further = rw stepped.view (AllBefore-set side v.seen v.seen i _ (AllBefore-refl side v.seen) there (Before_trans side _ _ _ stepped.found (further-first side x (mean_of side v.system i v.seen))));
   sound = stepped.sound id';
 }
@@ -62,7 +64,7 @@ advances_none side s sound = record {
   same_table = refl;
   same_system = refl;
   same_start = refl;
-  counts = record { loads = omega arith; fetches = omega arith; moves = omega arith };
+  counts = record { loads = omega arith; fetches = omega arith; moves = omega arith; takes = omega arith };
   further = AllBefore-refl side s.seen;
   sound = sound;
 }
@@ -72,19 +74,20 @@ advances_on side a b c h k = record {
   same_table = rw (k.same_table, h.same_table) refl;
   same_system = rw (k.same_system, h.same_system) refl;
   same_start = rw (k.same_start, h.same_start) refl;
-  counts = record { loads = omega (arith, h.counts.loads, k.counts.loads); fetches = omega (arith, h.counts.fetches, k.counts.fetches); moves = omega (arith, h.counts.moves, k.counts.moves) };
+  counts = record { loads = omega (arith, h.counts.loads, k.counts.loads); fetches = omega (arith, h.counts.fetches, k.counts.fetches); moves = omega (arith, h.counts.moves, k.counts.moves); takes = omega (arith, h.counts.takes, k.counts.takes) };
   further = AllBefore-trans side a.seen b.seen c.seen h.further k.further;
   sound = k.sound;
 }
 
 pub continues_none : (s : SeatState) → Continues s s
-continues_none s = record { parts = refl; looked = ([], sym (append-nil s.looked)); renewed = ([], sym (append-nil s.renewed)) }
+continues_none s = record { parts = refl; looked = ([], sym (append-nil s.looked)); renewed = ([], sym (append-nil s.renewed)); takes = refl }
 
 pub continues_on : (a b c : SeatState) → Continues a b → Continues b c → Continues a c
 continues_on a b c h k = record {
   parts = k.parts ∙ h.parts;
   looked = (h.looked.0 ++ k.looked.0, rw (k.looked.1, h.looked.1) (append_assoc a.looked h.looked.0 k.looked.0));
   renewed = (h.renewed.0 ++ k.renewed.0, rw (k.renewed.1, h.renewed.1) (append_assoc a.renewed h.renewed.0 k.renewed.0));
+  takes = k.takes ∙ h.takes;
 }
 
 -- the mean of a point that was renewed stands before its entry
@@ -107,10 +110,11 @@ moves-few side s sound =
     omega (arith, sound.paid u.0 calm, sound.valid.few, sound.start_boxes.all)
 
 -- a seat that is split off
-pub held_sprout : (side : Side) (id id' : TableId) (v w : View) (seen seen' : List ℕ) (moves : ℕ) → IsHeld side id v seen moves → seen' ≡ seen → w ≡ sprout v → IsHeld side id' w seen' 0
-held_sprout side id id' v w seen seen' moves held same e = record {
+pub held_sprout : (side : Side) (id id' : TableId) (v w : View) (seen seen' : List ℕ) (moves takes : ℕ) → IsHeld side id v seen moves takes → seen' ≡ seen → w ≡ sprout v → IsHeld side id' w seen' 0 0
+held_sprout side id id' v w seen seen' moves takes held same e = record {
   same_seen = rw (e, same) held.same_seen;
   same_moves = rw e refl;
+  same_takes = rw e (omega arith);
   unspent = rw e held.unspent;
   sound = rw e (record {
     valid = held.sound.valid;
@@ -128,25 +132,26 @@ stepped_quiet side points id v w i x sound same there inside stepped =
     rw stepped.view (renewed_quiet side points v.seen (state_of id v) i x _ sound same there inside (ap (λ (p : List Point). word_after side p Renew i x v.seen) same))
 
 -- one seat of two
-pub held_joined : (side : Side) (id id' name : TableId) (v w j l : View) (seen seen' both : List ℕ) (moves moves' : ℕ) → IsHeld side id v seen moves → IsHeld side id' w seen' moves' → j ≡ joined side v w → Learned side j l → both ≡ furthest side seen seen'
-    → IsHeld side name l both (moves + moves')
-held_joined side id id' name v w j l seen seen' both moves moves' h k e learned f = record {
+pub held_joined : (side : Side) (id id' name : TableId) (v w j l : View) (seen seen' both : List ℕ) (moves moves' takes takes' takes'' : ℕ) → IsHeld side id v seen moves takes → IsHeld side id' w seen' moves' takes' → j ≡ joined side v w → Learned side j l → both ≡ furthest side seen seen'
+    → takes'' ≡ min (takes + takes') (2 ^ 64 - 1) → IsHeld side name l both (moves + moves') takes''
+held_joined side id id' name v w j l seen seen' both moves moves' takes takes' takes'' h k e learned f sum = record {
   same_seen = rw (f, learned.view, e, h.same_seen, k.same_seen) refl;
   same_moves = rw (learned.view, e, h.same_moves, k.same_moves) refl;
+  same_takes = rw (learned.view, e) (omega (arith, h.same_takes, k.same_takes));
   unspent = rw (learned.view, e) h.unspent;
   sound = learned.sound name;
 }
 
-pub advances_joined : (side : Side) (id id' name : TableId) (v w j l : View) (seen seen' : List ℕ) (moves moves' : ℕ) → IsHeld side id v seen moves → IsHeld side id' w seen' moves' → j ≡ joined side v w → Learned side j l → v.system ≡ w.system → v.start ≡ w.start → name ≡ id → name ≡ id'
+pub advances_joined : (side : Side) (id id' name : TableId) (v w j l : View) (seen seen' : List ℕ) (moves moves' takes takes' : ℕ) → IsHeld side id v seen moves takes → IsHeld side id' w seen' moves' takes' → j ≡ joined side v w → Learned side j l → v.system ≡ w.system → v.start ≡ w.start → name ≡ id → name ≡ id'
     → Advances side (state_of id v) (state_of name l) × Advances side (state_of id' w) (state_of name l)
-advances_joined side id id' name v w j l seen seen' moves moves' h k e learned system start one two =
+advances_joined side id id' name v w j l seen seen' moves moves' takes takes' h k e learned system start one two =
     let same : length v.seen ≡ length w.seen = omega (arith, h.sound.in_boxes.all, k.sound.in_boxes.all, ap (λ (p : List Point). length p) system) in
     let view : l ≡ joined side v w = learned.view ∙ e in (
       record {
         same_table = one;
         same_system = ap (λ (z : View). z.system) view;
         same_start = ap (λ (z : View). z.start) view;
-        counts = rw view (record { loads = omega arith; fetches = omega arith; moves = omega arith });
+        counts = rw view (record { loads = omega arith; fetches = omega arith; moves = omega arith; takes = omega arith });
         further = rw view (λ i. rw (at_furthest side v.seen w.seen i same) (further-first side (slice_index v.seen i) (slice_index w.seen i)));
         sound = learned.sound name;
       },
@@ -154,7 +159,7 @@ advances_joined side id id' name v w j l seen seen' moves moves' h k e learned s
         same_table = two;
         same_system = ap (λ (z : View). z.system) view ∙ system;
         same_start = ap (λ (z : View). z.start) view ∙ start;
-        counts = rw view (record { loads = omega arith; fetches = omega arith; moves = omega arith });
+        counts = rw view (record { loads = omega arith; fetches = omega arith; moves = omega arith; takes = omega arith });
         further = rw view (λ i. rw (at_furthest side v.seen w.seen i same) (further-second side (slice_index v.seen i) (slice_index w.seen i)));
         sound = learned.sound name;
       },

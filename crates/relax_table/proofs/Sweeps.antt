@@ -55,7 +55,8 @@ pub record IsLooked (side : Side) (near : List Near) (t : TableState) (old new :
   pub fetches : new.fetches ≡ old.fetches
   pub moves : new.moves ≡ old.moves
   pub looked : new.looked ≡ old.looked ++ take n (map (λ e. e.point) near)
-  pub rest : (new.renewed ≡ old.renewed) × (new.parts ≡ old.parts)
+  pub rest : (new.renewed ≡ old.renewed) × (new.parts ≡ old.parts) × (new.takes ≡ old.takes)
+  pub idle : new.idle ≡ old.idle
   pub others : (j : ℕ) → All (λ e. e.point ≢ j) near → slice_index new.seen j ≡ slice_index old.seen j
   pub all : length old.seen ≡ length new.seen
   pub went : WentOn side moved old.seen new.seen
@@ -77,9 +78,9 @@ looked_all side near t old new first now n moved h all =
     h.looked ∙ ap (λ (l : List ℕ). old.looked ++ l) whole
 
 pub looked_more : (side : Side) (near : List Near) (t : TableState) (old mid new : SeatState) (steps steps' steps'' n j x y : ℕ) (moved b : Bool) (d : Near) → IsLooked side near t old mid steps steps' n moved → n < length near → j ≡ (slice_index_or near n d).point → j < length mid.seen
-    → IsSeatOf t new → Advances side mid new → new.seen ≡ set mid.seen j x → (new.loads ≡ mid.loads + 1) × (new.fetches ≡ mid.fetches) × (new.moves ≡ mid.moves) → (new.looked ≡ mid.looked ++ j ∷ []) × (new.renewed ≡ mid.renewed) × (new.parts ≡ mid.parts) → steps'' ≡ steps' + 1 → Before side (slice_index mid.seen j) x
+    → IsSeatOf t new → Advances side mid new → new.seen ≡ set mid.seen j x → (new.loads ≡ mid.loads + 1) × (new.fetches ≡ mid.fetches) × (new.moves ≡ mid.moves) → (new.looked ≡ mid.looked ++ j ∷ []) × (new.renewed ≡ mid.renewed) × (new.parts ≡ mid.parts) × (new.takes ≡ mid.takes) → new.idle ≡ mid.idle → steps'' ≡ steps' + 1 → Before side (slice_index mid.seen j) x
     → y ≡ slice_index mid.seen j → MatchBool b (x ≢ y) (x ≡ y) → IsLooked side near t old new steps steps'' (n + 1) (moved || b)
-looked_more side near t old mid new steps steps' steps'' n j x y moved b d h more at there own advances seen counts points one found e differ =
+looked_more side near t old mid new steps steps' steps'' n j x y moved b d h more at there own advances seen counts points idle one found e differ =
     let on = advances_on side old mid new h.advances advances in
     let same : length mid.seen ≡ length new.seen = seen_all side mid new h.advances.sound advances in
     record {
@@ -89,7 +90,8 @@ looked_more side near t old mid new steps steps' steps'' n j x y moved b d h mor
       fetches = counts.1 ∙ h.fetches;
       moves = counts.2 ∙ h.moves;
       looked = rw (points.0, h.looked, looks_more near n j d more at) (append_assoc old.looked (take n (map (λ (e : Near). e.point) near)) (j ∷ []));
-      rest = (points.1 ∙ h.rest.0, points.2 ∙ h.rest.1);
+      rest = (points.1 ∙ h.rest.0, points.2 ∙ h.rest.1, points.3 ∙ h.rest.2);
+      idle = idle ∙ h.idle;
       others = λ k apart'. rw seen (get_or-set_other mid.seen j k x 0 (λ same. apart' n d more (sym at ∙ sym same)) ∙ h.others k apart');
       all = h.all ∙ same;
       went = went_both side old.seen mid.seen new.seen moved b h.all same h.advances.further advances.further h.went (rw seen (went_set side mid.seen j x y b there found e differ));
@@ -146,7 +148,7 @@ still side false u v e h = h
 
 pub swept_more : (side : Side) (t : TableState) (from i : ℕ) (old mid new : SeatState) (first now now' : ℕ) (moved b : Bool) → IsSweptTo side t from i old mid first now moved → from ≤ i → i < length t.system → IsSeatOf t new → Advances side mid new
     → (new.loads ≡ mid.loads + length (point_at t.system i).near) × (new.fetches ≡ mid.fetches + 1) → Before side (mean_of side t.system i new.seen) (slice_index new.seen i) → WentOn side b mid.seen new.seen
-    → now' ≡ now + (length (point_at t.system i).near + 1) → (new.looked ≡ mid.looked ++ near_numbers t.system i) × (new.renewed ≡ mid.renewed ++ i ∷ []) × (new.parts ≡ mid.parts) → IsSweptTo side t from (i + 1) old new first now' (moved || b)
+    → now' ≡ now + (length (point_at t.system i).near + 1) → (new.looked ≡ mid.looked ++ near_numbers t.system i) × (new.renewed ≡ mid.renewed ++ i ∷ []) × (new.parts ≡ mid.parts) × (new.takes ≡ mid.takes) → IsSweptTo side t from (i + 1) old new first now' (moved || b)
 swept_more side t from i old mid new first now now' moved b h order there own advances counts quiet went steps points =
     let same : length mid.seen ≡ length new.seen = seen_all side mid new h.advances.sound advances in
     record {

@@ -1,5 +1,5 @@
 -- What clauses see of a table and of a seat.
-use Rattle.std.specs.Prelude.{◌≡◌, ◌≢◌, ℕ, ◌+◌, ◌-◌, ◌≤◌, List, ◌++◌, length, map, take, drop, sum_by, All}
+use Rattle.std.specs.Prelude.{◌≡◌, ◌≢◌, ℕ, ◌+◌, ◌-◌, ◌*◌, ◌/◌, ◌^◌, ◌<◌, ◌≤◌, min, zero, suc, List, ◌++◌, length, map, take, drop, sum_by, All}
 use Rattle.std.specs.List.{range_with_len, flat_map}
 use Rattle.atomic_table.specs.Seated.{TableId}
 use Rattle.relax_system.specs.declared.side.Side.{Side}
@@ -17,7 +17,8 @@ pub record TableState : Type 0 where
 
 -- A seat's table with its system and start, what the seat has seen, and what it did: the points whose words it loaded and
 -- those whose words it fetched, each in order, how many loads and fetches these are, and the moves, which are the fetches
--- that changed a word. Then how many seats it is made of, and the word that its last step found.
+-- that changed a word. Then its takes, which are its swaps of mark words, and how many of them found no bit since the last that
+-- found one. Then how many seats it is made of, and the word that its last load or fetch found.
 pub record SeatState : Type 0 where
   pub table : TableId
   pub system : List Point
@@ -28,6 +29,8 @@ pub record SeatState : Type 0 where
   pub loads : ℕ
   pub fetches : ℕ
   pub moves : ℕ
+  pub takes : ℕ
+  pub idle : ℕ
   pub parts : ℕ
   pub found : ℕ
 
@@ -50,16 +53,52 @@ pub record CountsOn (old new : SeatState) : Type 0 where
   pub loads : old.loads ≤ new.loads
   pub fetches : old.fetches ≤ new.fetches
   pub moves : old.moves ≤ new.moves
+  pub takes : old.takes ≤ new.takes
 
 -- the one list is a front of the other
 abbrev pub IsFront : List ℕ → List ℕ → Type 0
 IsFront front whole = (rest : List ℕ) × (whole ≡ front ++ rest)
 
--- It is still made of as many seats, and its new steps come after those that it had made.
+-- It is still made of as many seats, its new steps come after those that it had made, and it took no mark word.
 pub record Continues (old new : SeatState) : Type 0 where
   pub parts : new.parts ≡ old.parts
   pub looked : IsFront old.looked new.looked
   pub renewed : IsFront old.renewed new.renewed
+  pub takes : new.takes ≡ old.takes
+
+-- It is still made of as many seats, and its new steps come after those that it had made.
+pub record GoesOn (old new : SeatState) : Type 0 where
+  pub parts : new.parts ≡ old.parts
+  pub looked : IsFront old.looked new.looked
+  pub renewed : IsFront old.renewed new.renewed
+
+-- how many mark words the points of a table have, with a bit for each
+abbrev pub mark_words : ℕ → ℕ
+mark_words n = (n + 63) / 64
+
+-- the mark word q of a new table of n points: all bits of the points that it stands for, and no others
+abbrev pub marks_at : ℕ → ℕ → ℕ
+marks_at n q = 2 ^ min (n - 64 * q) 64 - 1
+
+-- how many takes in a row found no bit, after one more that found x
+abbrev pub idle_after : ℕ → ℕ → ℕ
+idle_after zero idle = idle + 1
+idle_after (suc x) idle = 0
+
+-- the same seat with one take more, which found x
+abbrev pub taken_once : SeatState → ℕ → SeatState
+taken_once s x = record s { takes = s.takes + 1; idle = idle_after x s.idle }
+
+-- Its takes grew by whole passes over the mark words from the one number to before the other: by one pass at least where one is
+-- allowed, and by no more than are allowed. Where it made fewer than are allowed, its last pass found no bit. Of its last two passes
+-- one found a bit.
+pub record TakesPasses (passes from to : ℕ) (old new : SeatState) : Type 0 where
+  pub done : ℕ
+  pub takes : new.takes ≡ old.takes + done * (to - from)
+  pub most : done ≤ passes
+  pub some : 1 ≤ passes → 1 ≤ done
+  pub ends : done < passes → to - from ≤ new.idle
+  pub goes : 2 ≤ done → new.idle < 2 * (to - from)
 
 -- the numbers from the one to before the other
 abbrev pub numbers_between : ℕ → ℕ → List ℕ

@@ -41,7 +41,8 @@ impl<'a, D: Direction> SideTable<'a, D> {
         ensures advances { Advances D.side seat.old seat.new }
         ensures seen { seat.new.seen ≡ seen_after D.side self.now.system Load i result seat.old.seen }
         ensures counts { (seat.new.loads ≡ seat.old.loads + 1) × (seat.new.fetches ≡ seat.old.fetches) × (seat.new.moves ≡ seat.old.moves) }
-        ensures points { (seat.new.looked ≡ seat.old.looked ++ i ∷ []) × (seat.new.renewed ≡ seat.old.renewed) × (seat.new.parts ≡ seat.old.parts) }
+        ensures points { (seat.new.looked ≡ seat.old.looked ++ i ∷ []) × (seat.new.renewed ≡ seat.old.renewed) × (seat.new.parts ≡ seat.old.parts) × (seat.new.takes ≡ seat.old.takes) }
+        ensures idle { seat.new.idle ≡ seat.old.idle }
         ensures found { Before D.side (slice_index seat.old.seen i) result }
         ensures steps { steps.new ≡ steps.old + 1 }
     {
@@ -66,7 +67,8 @@ impl<'a, D: Direction> SideTable<'a, D> {
         ensures word { result.new ≡ word_after D.side self.now.system Renew i result.old seat.old.seen }
         ensures seen { seat.new.seen ≡ slice_set seat.old.seen i result.new }
         ensures counts { (seat.new.loads ≡ seat.old.loads) × (seat.new.fetches ≡ seat.old.fetches + 1) × (seat.new.moves ≡ seat.old.moves + one_if (is_past D.side result.old result.new)) }
-        ensures points { (seat.new.looked ≡ seat.old.looked) × (seat.new.renewed ≡ seat.old.renewed ++ i ∷ []) × (seat.new.parts ≡ seat.old.parts) }
+        ensures points { (seat.new.looked ≡ seat.old.looked) × (seat.new.renewed ≡ seat.old.renewed ++ i ∷ []) × (seat.new.parts ≡ seat.old.parts) × (seat.new.takes ≡ seat.old.takes) }
+        ensures idle { seat.new.idle ≡ seat.old.idle }
         ensures found { Before D.side (slice_index seat.old.seen i) result.old }
         ensures word_found { result.old ≡ seat.new.found }
         ensures quiet { Before D.side (mean_of D.side self.now.system i seat.new.seen) (slice_index seat.new.seen i) }
@@ -89,7 +91,8 @@ impl<'a, D: Direction> SideTable<'a, D> {
         ensures own { IsSeatOf self.now seat.new }
         ensures advances { Advances D.side seat.old seat.new }
         ensures counts { (seat.new.loads ≡ seat.old.loads + length (point_at self.now.system i).near) × (seat.new.fetches ≡ seat.old.fetches) × (seat.new.moves ≡ seat.old.moves) }
-        ensures points { (seat.new.looked ≡ seat.old.looked ++ near_numbers self.now.system i) × (seat.new.renewed ≡ seat.old.renewed) × (seat.new.parts ≡ seat.old.parts) }
+        ensures points { (seat.new.looked ≡ seat.old.looked ++ near_numbers self.now.system i) × (seat.new.renewed ≡ seat.old.renewed) × (seat.new.parts ≡ seat.old.parts) × (seat.new.takes ≡ seat.old.takes) }
+        ensures idle { seat.new.idle ≡ seat.old.idle }
         ensures others { (j : ℕ) → IsNoNeighbour self.now.system i j → slice_index seat.new.seen j ≡ slice_index seat.old.seen j }
         ensures moved { MatchBool result (1 ≤ distance D.side seat.old.seen seat.new.seen) (seat.new.seen ≡ seat.old.seen) }
         ensures steps { steps.new ≡ steps.old + length (point_at self.now.system i).near }
@@ -120,7 +123,8 @@ impl<'a, D: Direction> SideTable<'a, D> {
         ensures word { result.fetch.new ≡ word_after D.side self.now.system Renew i result.fetch.old seat.new.seen }
         ensures entry { slice_index seat.new.seen i ≡ result.fetch.new }
         ensures counts { (seat.new.loads ≡ seat.old.loads + length (point_at self.now.system i).near) × (seat.new.fetches ≡ seat.old.fetches + 1) × (seat.new.moves ≡ seat.old.moves + one_if (is_past D.side result.fetch.old result.fetch.new)) × (steps.new ≡ steps.old + (length (point_at self.now.system i).near + 1)) }
-        ensures points { (seat.new.looked ≡ seat.old.looked ++ near_numbers self.now.system i) × (seat.new.renewed ≡ seat.old.renewed ++ i ∷ []) × (seat.new.parts ≡ seat.old.parts) }
+        ensures points { (seat.new.looked ≡ seat.old.looked ++ near_numbers self.now.system i) × (seat.new.renewed ≡ seat.old.renewed ++ i ∷ []) × (seat.new.parts ≡ seat.old.parts) × (seat.new.takes ≡ seat.old.takes) }
+        ensures idle { seat.new.idle ≡ seat.old.idle }
         ensures others { (j : ℕ) → j ≢ i → IsNoNeighbour self.now.system i j → slice_index seat.new.seen j ≡ slice_index seat.old.seen j }
         ensures found { (result.fetch.old ≡ seat.new.found) × Before D.side (slice_index seat.old.seen i) result.fetch.old }
         ensures quiet { Before D.side (mean_of D.side self.now.system i seat.new.seen) (slice_index seat.new.seen i) }
@@ -161,7 +165,7 @@ pub(crate) fn either(a: bool, b: bool) -> bool
 
 /// Whether the numbers differ.
 #[inline(always)]
-fn differs(a: u64, b: u64) -> bool
+pub(crate) fn differs(a: u64, b: u64) -> bool
     ensures { MatchBool result (a ≢ b) (a ≡ b) }
 {
     a != b

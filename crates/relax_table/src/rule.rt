@@ -29,23 +29,28 @@ pub struct View {
     pub fetches: u64,
     /// The fetches that changed a word.
     pub moves: u64,
+    /// The swaps of mark words.
+    pub takes: u64,
+    /// Those of them that found no bit, since the last that found one.
+    pub idle: u64,
     /// How many seats it is made of.
     pub parts: u64,
-    /// The word that its last step found.
+    /// The word that its last load or fetch found.
     pub found: u64,
     /// Whether the seat was joined to another.
     pub spent: bool,
 }
 
-/// The rule of a table of that direction.
+/// The rule of a table of that direction. It is a fact about the words of points, and says nothing of mark words.
 pub struct SideRule<D> {
     direction: PhantomData<D>,
 }
 
 impl<S, D: Direction> TableRule<S, View, Origin> for SideRule<D> {
+    ghost use Rattle.std.specs.Prelude.{take, length};
     ghost use Rattle.relax_table.specs.Forms.Rule.{Keeps, opened};
 
-    ghost holds = { λ k s. Keeps D.side k.system.value k.start.value.items s.words s.views };
+    ghost holds = { λ k s. Keeps D.side k.system.value k.start.value.items (take (length k.system.value) s.words) s.views };
 
     ghost first = { λ k. opened k.system.value k.start.value.items };
 }
@@ -86,6 +91,25 @@ impl<S, D: Direction> Play<S, View> for Learns<D> {
     ghost use Rattle.relax_table.specs.Forms.Rule.{Learned};
 
     ghost then = { λ s v x w. (w.1 ≡ v.1) × Learned D.side v.0 w.0 };
+}
+
+/// A swap of a mark word with 0.
+pub(crate) struct Takes;
+
+impl<S> Play<S, View> for Takes {
+    ghost use Rattle.std.specs.Prelude.{◌≡◌};
+    ghost use Rattle.relax_table.specs.Forms.Rule.{taken};
+
+    ghost then = { λ s v x w. (w.1 ≡ v.1) × (w.0 ≡ taken v.0 x) };
+}
+
+/// A `fetch_or` on a mark word, which leaves the view as it is.
+pub(crate) struct Marks;
+
+impl<S> Play<S, View> for Marks {
+    ghost use Rattle.std.specs.Prelude.{◌≡◌};
+
+    ghost then = { λ s v x w. (w.1 ≡ v.1) × (w.0 ≡ v.0) };
 }
 
 /// How a seat is split in two, and how two are joined.

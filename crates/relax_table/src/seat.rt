@@ -15,12 +15,14 @@ pub struct Renewal {
     pub new: u64,
 }
 
-/// A seat at a table of that direction: what one thread has seen, and how many words it has moved.
+/// A seat at a table of that direction: what one thread has seen, how many words it has moved, and how many mark words it has
+/// taken. The last count stands still at the end of its type.
 #[derive(Drop)]
 pub struct SideSeat<D: Direction> {
     pub(crate) seat: Seat<u8, View>,
     pub(crate) seen: Vec<u64>,
     pub(crate) moves: u64,
+    pub(crate) takes: u64,
     pub(crate) direction: PhantomData<D>,
 }
 
@@ -33,7 +35,7 @@ impl<D: Direction> Model for SideSeat<D> {
 
     ghost view = { λ s. state_of s.seat.table_id s.seat.me.0 };
 
-    ghost invariant = { λ s. (s.seat.me.1 ≡ []) × IsHeld D.side s.seat.table_id s.seat.me.0 s.seen.items s.moves };
+    ghost invariant = { λ s. (s.seat.me.1 ≡ []) × IsHeld D.side s.seat.table_id s.seat.me.0 s.seen.items s.moves s.takes };
 }
 
 impl<D: Direction> SideSeat<D> {

@@ -10,6 +10,7 @@ ghost use Rattle.relax_table.specs.Forms.Rule.{furthest};
 ghost use Rattle.std.specs.Prelude.{ℕ, List};
 
 use crate::direction::{Direction, further};
+use crate::marks::marked;
 use crate::rule::{Halves, Learns, Origin, SideRule, View};
 use crate::seat::SideSeat;
 use atomic_table::Table;
@@ -27,19 +28,20 @@ pub struct SideTable<'a, D: Direction> {
 }
 
 impl<'a, D: Direction> Model for SideTable<'a, D> {
-    ghost use Rattle.std.specs.Prelude.{◌≡◌, ◌<◌, length};
+    ghost use Rattle.std.specs.Prelude.{◌≡◌, ◌+◌, ◌<◌, length};
     ghost use Rattle.relax_system.specs.System.{IsValid};
-    ghost use Rattle.relax_table.specs.Seats.{TableState};
+    ghost use Rattle.relax_table.specs.Seats.{TableState, mark_words};
 
     ghost Value = { TableState };
 
     ghost view = { λ t. record { id = t.table.shared.table_id; system = t.system.now; start = t.table.shared.key.start.value.items } };
 
-    ghost invariant = { λ t. (t.table.shared.key.system.value ≡ t.system.now) × (t.table.shared.table_id.words ≡ length t.system.now) × (0 < length t.system.now) × IsValid t.system.now };
+    ghost invariant = { λ t. (t.table.shared.key.system.value ≡ t.system.now) × (t.table.shared.table_id.words ≡ length t.system.now + mark_words (length t.system.now)) × (0 < length t.system.now) × IsValid t.system.now };
 }
 
 impl<'a, D: Direction> SideTable<'a, D> {
-    /// A table whose words are the start's entries, and its first seat. Only want of memory is refused.
+    /// A table whose words are the start's entries, with a mark of each point behind them, and its first seat. Only want of memory
+    /// is refused.
     pub fn over(
         alloc: Global,
         system: &'a System,
@@ -50,21 +52,23 @@ impl<'a, D: Direction> SideTable<'a, D> {
         requires first { (u : List ℕ) → IsQuietVector D.side system.now u → AllBefore D.side start.now u }
         ensures table { IfOk result (λ t. (t.0.system ≡ system.now) × (t.0.start ≡ start.now)) }
         ensures own { IfOk result (λ t. IsSeatOf t.0 t.1) }
-        ensures seat { IfOk result (λ t. (t.1.seen ≡ start.now) × (t.1.loads ≡ 0) × (t.1.fetches ≡ 0) × (t.1.moves ≡ 0) × (t.1.parts ≡ 1) × (t.1.looked ≡ []) × (t.1.renewed ≡ [])) }
+        ensures seat { IfOk result (λ t. (t.1.seen ≡ start.now) × (t.1.loads ≡ 0) × (t.1.fetches ≡ 0) × (t.1.moves ≡ 0) × (t.1.parts ≡ 1) × (t.1.looked ≡ []) × (t.1.renewed ≡ []) × (t.1.takes ≡ 0)) }
         ensures sound { IfOk result (λ t. IsSound D.side t.1) }
     {
         let _ = system.points();
         let mut seen = Vec::new(alloc);
         seen.extend_from_slice(start)?;
+        let words = marked(alloc, start)?;
         let origin = Origin {
             system: Snapshot::of(system),
             start: Snapshot::of(&seen),
         };
-        let (table, seat) = Table::of_words(alloc, start, &origin)?;
+        let (table, seat) = Table::of_words(alloc, &words, &origin)?;
         let seat = SideSeat {
             seat,
             seen,
             moves: 0,
+            takes: 0,
             direction: PhantomData,
         };
         Ok((SideTable { system, table }, seat))
@@ -75,7 +79,7 @@ impl<'a, D: Direction> SideTable<'a, D> {
         requires { IsSeatOf self.now seat.old }
         ensures same { seat.new ≡ seat.old }
         ensures own { IfOk result (IsSeatOf self.now) }
-        ensures seat { IfOk result (λ s. (s.seen ≡ seat.old.seen) × (s.loads ≡ 0) × (s.fetches ≡ 0) × (s.moves ≡ 0) × (s.parts ≡ 1) × (s.looked ≡ []) × (s.renewed ≡ [])) }
+        ensures seat { IfOk result (λ s. (s.seen ≡ seat.old.seen) × (s.loads ≡ 0) × (s.fetches ≡ 0) × (s.moves ≡ 0) × (s.parts ≡ 1) × (s.looked ≡ []) × (s.renewed ≡ []) × (s.takes ≡ 0)) }
         ensures sound { IfOk result (IsSound D.side) }
     {
         let seen = seat.seen.clone()?;
@@ -84,6 +88,7 @@ impl<'a, D: Direction> SideTable<'a, D> {
             seat: other,
             seen,
             moves: 0,
+            takes: 0,
             direction: PhantomData,
         })
     }
@@ -94,7 +99,7 @@ impl<'a, D: Direction> SideTable<'a, D> {
         requires other { IsSeatOf self.now other }
         ensures own { IsSeatOf self.now result }
         ensures seen { (i : ℕ) → slice_index result.seen i ≡ further_of D.side (slice_index seat.seen i) (slice_index other.seen i) }
-        ensures counts { (result.loads ≡ seat.loads + other.loads) × (result.fetches ≡ seat.fetches + other.fetches) × (result.moves ≡ seat.moves + other.moves) × (result.parts ≡ seat.parts + other.parts) }
+        ensures counts { (result.loads ≡ seat.loads + other.loads) × (result.fetches ≡ seat.fetches + other.fetches) × (result.moves ≡ seat.moves + other.moves) × (result.parts ≡ seat.parts + other.parts) × (result.takes ≡ seat.takes + other.takes) }
         ensures advances { Advances D.side seat result }
         ensures advances_other { Advances D.side other result }
     {
@@ -102,12 +107,14 @@ impl<'a, D: Direction> SideTable<'a, D> {
             mut seat,
             mut seen,
             moves,
+            takes,
             direction,
         } = seat;
         let SideSeat {
             seat: other,
             seen: others,
             moves: more,
+            takes: more_takes,
             direction: _,
         } = other;
         self.table.shared.join_seat::<Halves<D>>(&mut seat, other);
@@ -117,6 +124,7 @@ impl<'a, D: Direction> SideTable<'a, D> {
             seat,
             seen,
             moves: moves + more,
+            takes: takes.saturating_add(more_takes),
             direction,
         }
     }

@@ -1,5 +1,5 @@
--- The rule of a table over its words, its start and the views of all seats, and what each step leaves.
-use Rattle.std.specs.Prelude.{◌≡◌, ◌⊎◌, ℕ, ◌+◌, ◌<◌, ◌≤◌, List, [], ◌∷◌, ◌++◌, length, map, sum_by, true, false}
+-- The rule of a table over the words of its points, its start and the views of all seats, and what each step leaves.
+use Rattle.std.specs.Prelude.{◌≡◌, ◌⊎◌, ℕ, ◌+◌, ◌-◌, ◌^◌, ◌<◌, ◌≤◌, min, List, [], ◌∷◌, ◌++◌, length, map, sum_by, true, false}
 use Rattle.std.specs.List.{slice_index, zip}
 use mathlib.Core.Option.{some}
 use lib.ListN.{get_elem?}
@@ -13,11 +13,11 @@ use Rattle.relax_table.specs.declared.rule.View.{View}
 use Rattle.relax_table.specs.Ways.{is_past, one_if, IsQuietVector}
 use Rattle.relax_table.specs.Step.{Kind, word_after, seen_after}
 use Rattle.relax_table.specs.Step.Kind.{Load, Renew}
-use Rattle.relax_table.specs.Seats.{SeatState, IsSound}
+use Rattle.relax_table.specs.Seats.{SeatState, IsSound, idle_after}
 
 -- a seat as clauses see it
 abbrev pub state_of : TableId → View → SeatState
-state_of id v = record { table = id; system = v.system; start = v.start; seen = v.seen; looked = v.looked; renewed = v.renewed; loads = v.loads; fetches = v.fetches; moves = v.moves; parts = v.parts; found = v.found }
+state_of id v = record { table = id; system = v.system; start = v.start; seen = v.seen; looked = v.looked; renewed = v.renewed; loads = v.loads; fetches = v.fetches; moves = v.moves; takes = v.takes; idle = v.idle; parts = v.parts; found = v.found }
 
 -- the moves of all seats together
 abbrev pub all_moves : List View → ℕ
@@ -58,11 +58,11 @@ pub record Keeps (side : Side) (points : List Point) (start words : List ℕ) (v
 
 -- the first view
 abbrev pub opened : List Point → List ℕ → View
-opened points start = record { system = points; start = start; seen = start; looked = []; renewed = []; loads = 0; fetches = 0; moves = 0; parts = 1; found = 0; spent = false }
+opened points start = record { system = points; start = start; seen = start; looked = []; renewed = []; loads = 0; fetches = 0; moves = 0; takes = 0; idle = 0; parts = 1; found = 0; spent = false }
 
 -- a seat that is split off has seen the same, has made no step, and is one seat
 abbrev pub sprout : View → View
-sprout v = record { system = v.system; start = v.start; seen = v.seen; looked = []; renewed = []; loads = 0; fetches = 0; moves = 0; parts = 1; found = 0; spent = v.spent }
+sprout v = record { system = v.system; start = v.start; seen = v.seen; looked = []; renewed = []; loads = 0; fetches = 0; moves = 0; takes = 0; idle = 0; parts = 1; found = 0; spent = v.spent }
 
 -- of two vectors the entries that stand further on the way
 abbrev pub furthest : Side → List ℕ → List ℕ → List ℕ
@@ -79,6 +79,8 @@ joined side v w = record {
   loads = v.loads + w.loads;
   fetches = v.fetches + w.fetches;
   moves = v.moves + w.moves;
+  takes = v.takes + w.takes;
+  idle = 0;
   parts = v.parts + w.parts;
   found = v.found;
   spent = v.spent;
@@ -86,7 +88,7 @@ joined side v w = record {
 
 -- what a join leaves behind
 abbrev pub gone : View
-gone = record { system = []; start = []; seen = []; looked = []; renewed = []; loads = 0; fetches = 0; moves = 0; parts = 0; found = 0; spent = true }
+gone = record { system = []; start = []; seen = []; looked = []; renewed = []; loads = 0; fetches = 0; moves = 0; takes = 0; idle = 0; parts = 0; found = 0; spent = true }
 
 -- the view after a step on the word of the point i that found x
 abbrev pub stepped_view : Side → Kind → ℕ → View → ℕ → View
@@ -99,6 +101,8 @@ stepped_view side Load i v x = record {
   loads = v.loads + 1;
   fetches = v.fetches;
   moves = v.moves;
+  takes = v.takes;
+  idle = v.idle;
   parts = v.parts;
   found = x;
   spent = v.spent;
@@ -112,6 +116,8 @@ stepped_view side Renew i v x = record {
   loads = v.loads;
   fetches = v.fetches + 1;
   moves = v.moves + one_if (is_past side x (word_after side v.system Renew i x v.seen));
+  takes = v.takes;
+  idle = v.idle;
   parts = v.parts;
   found = x;
   spent = v.spent;
@@ -123,14 +129,19 @@ pub record Stepped (side : Side) (kind : Kind) (i : ℕ) (v : View) (x : ℕ) (w
   pub found : Before side (slice_index v.seen i) x
   pub sound : (id : TableId) → IsSound side (state_of id w)
 
+-- the view after a swap of a mark word with 0 that found x
+abbrev pub taken : View → ℕ → View
+taken v x = record v { takes = v.takes + 1; idle = idle_after x v.idle }
+
 -- after a load that changes no view
 pub record Learned (side : Side) (v w : View) : Type 0 where
   pub view : w ≡ v
   pub sound : (id : TableId) → IsSound side (state_of id w)
 
--- a seat's own vector and count are those of its view, which isn't spent
-pub record IsHeld (side : Side) (id : TableId) (v : View) (seen : List ℕ) (moves : ℕ) : Type 0 where
+-- a seat's own vector and counts are those of its view, which isn't spent; its count of takes stands still at the end of its type
+pub record IsHeld (side : Side) (id : TableId) (v : View) (seen : List ℕ) (moves takes : ℕ) : Type 0 where
   pub same_seen : seen ≡ v.seen
   pub same_moves : moves ≡ v.moves
+  pub same_takes : takes ≡ min v.takes (2 ^ 64 - 1)
   pub unspent : v.spent ≡ false
   pub sound : IsSound side (state_of id v)

@@ -24,7 +24,7 @@ invariant_of-result g c =
     let both : c.join_seat.new.seat.me.0 ≡ joined g.D.Direction.side c.seat.inside.seat.me.0 c.other.inside.seat.me.0 = ap (λ (z : View × List (ℕ × ℕ)). z.0) c.join_seat.ensures.2 in
     let seen : c.put_furthest.new.seen.items ≡ furthest g.D.Direction.side c.seat.inside.seen.items c.other.inside.seen.items = c.put_furthest.ensures ∙ ap (λ (u : List ℕ). furthest g.D.Direction.side c.seat.inside.seen.items u) c.deref.ensures.value in (
       search rules,
-      held_joined g.D.Direction.side _ _ _ _ _ _ _ _ _ _ _ _ c.seat.invariant.1 c.other.invariant.1 both c.load.ensures.2.1 seen,
+      held_joined g.D.Direction.side _ _ _ _ _ _ _ _ _ _ _ _ _ _ _ c.seat.invariant.1 c.other.invariant.1 both c.load.ensures.2.1 seen (search rules),
     )
 
 pub returns-clause-advances : goal.returns-clause-advances
@@ -37,7 +37,7 @@ returns-clause-advances g c =
     let table : c.seat.inside.seat.table_id ≡ c.args.self.now.id = ap (λ (s : SeatState). s.table) c.seat.view_is ∙ c.requires.own.same_table in
     let table' : c.other.inside.seat.table_id ≡ c.args.self.now.id = ap (λ (s : SeatState). s.table) c.other.view_is ∙ c.requires.other.same_table in
     let name : c.load.new.seat.table_id ≡ c.seat.inside.seat.table_id = c.load.ensures.0 ∙ c.join_seat.ensures.0 in
-    let h = advances_joined g.D.Direction.side c.seat.inside.seat.table_id c.other.inside.seat.table_id c.load.new.seat.table_id c.seat.inside.seat.me.0 c.other.inside.seat.me.0 c.join_seat.new.seat.me.0 c.load.new.seat.me.0 _ _ _ _
+    let h = advances_joined g.D.Direction.side c.seat.inside.seat.table_id c.other.inside.seat.table_id c.load.new.seat.table_id c.seat.inside.seat.me.0 c.other.inside.seat.me.0 c.join_seat.new.seat.me.0 c.load.new.seat.me.0 _ _ _ _ _ _
     c.seat.invariant.1 c.other.invariant.1 both c.load.ensures.2.1 (mine ∙ sym other) (start ∙ sym start') name (name ∙ (table ∙ sym table')) in
     subst (λ (s : SeatState). Advances g.D.Direction.side s (state_of c.load.new.seat.table_id c.load.new.seat.me.0)) c.seat.view_is h.0
 
@@ -51,7 +51,7 @@ returns-clause-advances_other g c =
     let table : c.seat.inside.seat.table_id ≡ c.args.self.now.id = ap (λ (s : SeatState). s.table) c.seat.view_is ∙ c.requires.own.same_table in
     let table' : c.other.inside.seat.table_id ≡ c.args.self.now.id = ap (λ (s : SeatState). s.table) c.other.view_is ∙ c.requires.other.same_table in
     let name : c.load.new.seat.table_id ≡ c.seat.inside.seat.table_id = c.load.ensures.0 ∙ c.join_seat.ensures.0 in
-    let h = advances_joined g.D.Direction.side c.seat.inside.seat.table_id c.other.inside.seat.table_id c.load.new.seat.table_id c.seat.inside.seat.me.0 c.other.inside.seat.me.0 c.join_seat.new.seat.me.0 c.load.new.seat.me.0 _ _ _ _
+    let h = advances_joined g.D.Direction.side c.seat.inside.seat.table_id c.other.inside.seat.table_id c.load.new.seat.table_id c.seat.inside.seat.me.0 c.other.inside.seat.me.0 c.join_seat.new.seat.me.0 c.load.new.seat.me.0 _ _ _ _ _ _
     c.seat.invariant.1 c.other.invariant.1 both c.load.ensures.2.1 (mine ∙ sym other) (start ∙ sym start') name (name ∙ (table ∙ sym table')) in
     subst (λ (s : SeatState). Advances g.D.Direction.side s (state_of c.load.new.seat.table_id c.load.new.seat.me.0)) c.other.view_is h.1
 

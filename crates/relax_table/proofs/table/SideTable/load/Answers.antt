@@ -10,7 +10,7 @@ pub load-word-requires : goal.load-word-requires
 load-word-requires g c = (search rules, search rules, loads_allowed g.D.Direction.side _ _ _ _ _ _ (search rules) (search rules))
 
 pub invariant_of-seat : goal.invariant_of-seat
-invariant_of-seat g c = (search rules, held_loaded g.D.Direction.side _ _ _ _ _ _ _ _ c.seat.invariant.1 c.load-word.ensures.2.1)
+invariant_of-seat g c = (search rules, held_loaded g.D.Direction.side _ _ _ _ _ _ _ _ _ c.seat.invariant.1 c.load-word.ensures.2.1)
 
 pub returns-clause-advances : goal.returns-clause-advances
 returns-clause-advances g c =

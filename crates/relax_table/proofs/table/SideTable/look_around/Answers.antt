@@ -27,7 +27,7 @@ loop-entry-preserved g c =
     let inside : j < length c.seat-in-loop-entry.inside.seen.items = omega (arith, ap (λ (l : List ℕ). length l) seen) in
     let before : c.index-before.result.now ≡ slice_index c.loop-entry.seat.seen j = get_or_read c.seat-in-loop-entry.inside.seen.items _ _ inside c.index-before.ensures 0 ∙ ap (λ (l : List ℕ). slice_index l j) seen in
     rw c.either-moved.ensures (looked_more g.D.Direction.side mine c.args.self.now c.args.seat.now c.loop-entry.seat c.load-word.new.seat c.args.steps.now c.loop-entry.steps c.load-word.new.steps
-    k j c.load-word.result c.index-before.result.now c.loop-entry.moved c.differs.result d c.loop-entry.invariant more at there c.load-word.ensures.own c.load-word.ensures.advances c.load-word.ensures.seen c.load-word.ensures.counts c.load-word.ensures.points c.load-word.ensures.steps c.load-word.ensures.found before c.differs.ensures)
+    k j c.load-word.result c.index-before.result.now c.loop-entry.moved c.differs.result d c.loop-entry.invariant more at there c.load-word.ensures.own c.load-word.ensures.advances c.load-word.ensures.seen c.load-word.ensures.counts c.load-word.ensures.points c.load-word.ensures.idle c.load-word.ensures.steps c.load-word.ensures.found before c.differs.ensures)
 
 pub returns-clause-points : goal.returns-clause-points
 returns-clause-points g c =
@@ -37,4 +37,5 @@ returns-clause-points g c =
       looked_all g.D.Direction.side (point_at c.args.self.now.system c.args.i).near c.args.self.now c.args.seat.now c.loop-entry.seat c.args.steps.now c.loop-entry.steps c.loop-entry.entry-index c.loop-entry.moved c.loop-entry.invariant (omega (arith, c.loop-entry-test.false)),
       c.loop-entry.invariant.rest.0,
       c.loop-entry.invariant.rest.1,
+      c.loop-entry.invariant.rest.2,
     )

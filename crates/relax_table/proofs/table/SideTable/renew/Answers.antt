@@ -22,7 +22,7 @@ invariant_of-seat g c =
     cc (c.further-new.ensures, c.side-2.ensures, c.mean-mean.ensures, c.side.ensures, system, seen) in
     let count : c.passes.result ≡ one_if (is_past g.D.Direction.side c.fetch-old.result c.further-new.result) = c.passes.ensures ∙ ap (λ (z : Side). one_if (is_past z c.fetch-old.result c.further-new.result)) c.side-3.ensures in (
       search rules,
-      held_renewed g.D.Direction.side _ _ _ _ _ _ _ _ _ _ c.seat.invariant.1 c.fetch-old.ensures.stepped word (ap (λ (k : ℕ). c.seat.inside.moves + k) count),
+      held_renewed g.D.Direction.side _ _ _ _ _ _ _ _ _ _ _ c.seat.invariant.1 c.fetch-old.ensures.stepped word (ap (λ (k : ℕ). c.seat.inside.moves + k) count),
     )
 
 pub returns-clause-advances : goal.returns-clause-advances
