@@ -1,6 +1,6 @@
 -- The doubling of a vector, entry by entry.
 use Rattle.std.proofs.Common.{◌≡◌, ℕ, ◌+◌, ◌*◌, ◌<◌, ◌≤◌, List, length, set, refl, sym, ◌∙◌, ⊎_elim, arith}
-use Rattle.std.specs.List.{slice_index, All}
+use Rattle.std.specs.List.{slice_index}
 use Rattle.std.proofs.lemmas.List.{length-set, get_or-set_same, get_or-set_other}
 use Rattle.std.proofs.lemmas.Bool.{cases_eq}
 use Rattle.std.proofs.lemmas.Grind.{same_number_lists}

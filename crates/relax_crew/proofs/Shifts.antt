@@ -1,12 +1,12 @@
 -- What a solve with one halving less reaches, after the one before.
-use Rattle.std.proofs.Common.{◌≡◌, ℕ, ◌+◌, ◌*◌, ◌<◌, ◌≤◌, List, length, refl, sym, ap, ◌∙◌, subst, arith}
-use Rattle.std.specs.List.{slice_index, All}
+use Rattle.std.proofs.Common.{◌≡◌, ℕ, ◌+◌, ◌*◌, ◌<◌, ◌≤◌, List, length, subst, arith}
+use Rattle.std.specs.List.{All}
 use Rattle.std.proofs.lemmas.List.{length-map, get_or_default}
 use Rattle.relax_system.specs.declared.side.Side.{Side}
 use Rattle.relax_system.specs.declared.points.Point.{Point}
 use Rattle.relax_system.specs.System.{point_at, IsValid}
 use Rattle.relax_system.specs.Means.{InBoxes}
-use Rattle.relax_system.specs.Sides.{AllBefore, starts_of, distance, IsExtremal}
+use Rattle.relax_system.specs.Sides.{AllBefore, starts_of, distance}
 use Rattle.relax_system.specs.Halved.{halved_point, halved, doubled}
 use Rattle.relax_system.proofs.Climbing.{IsOnWay_start}
 use Rattle.relax_system.proofs.Halvings.{way_step, doubled_in_boxes, doubled_first, starts_way, IsValid-halved, halved-none}

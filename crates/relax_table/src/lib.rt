@@ -30,6 +30,7 @@ pub use chase::MOST_PASSES;
 pub use direction::{Direction, Down, Up};
 pub use floor::{FloorSeat, FloorTable, Raised};
 pub use laws::{ends_may_start, moves_are_few, quiet_is_extremal};
+pub use marks::MARKS;
 pub use relax::Relaxed;
 pub use seat::{Renewal, SideSeat};
 pub use steps::Steps;

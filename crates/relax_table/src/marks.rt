@@ -7,7 +7,7 @@ use book_text::Memory;
 use std::alloc::Global;
 
 /// How many points have their marks in one word.
-pub(crate) const MARKS: usize = 64;
+pub const MARKS: usize = 64;
 
 /// The words of a new table: the start's entries, and behind them a mark of each point.
 pub(crate) fn marked(alloc: Global, start: &[u64]) -> Result<Vec<u64>, Memory>

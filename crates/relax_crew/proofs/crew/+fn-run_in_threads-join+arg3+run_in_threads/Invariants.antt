@@ -1,4 +1,4 @@
-use Rattle.std.proofs.Common.{◌+◌, ◌*◌, vec_len}
+use Rattle.std.proofs.Common.{vec_len}
 use Rattle.relax_crew.proofs.crew.+fn-run_in_threads-join+arg3+run_in_threads.Given as goal
 
 abbrev pub decreases-join+arg3 : goal.decreases-join+arg3

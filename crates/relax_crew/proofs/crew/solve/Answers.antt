@@ -1,7 +1,6 @@
-use Rattle.std.proofs.Common.{rules, ◌≡◌, ◌+◌, ◌∙◌, subst, sym, arith}
-use Rattle.relax_system.specs.Halved.{halved, doubled}
-use Rattle.relax_system.proofs.Halvings.{halved-none}
-use Rattle.relax_crew.specs.Forms.Shifts.{IsSettled, IsReached, IsSolved}
+use Rattle.std.proofs.Common.{rules, ◌≡◌, ◌+◌, arith}
+use Rattle.relax_system.specs.Halved.{doubled}
+use Rattle.relax_crew.specs.Forms.Shifts.{IsSettled}
 use Rattle.relax_crew.proofs.Shifts.{low_entries, last_in_boxes, last_first, solved, few_solved}
 use Rattle.relax_crew.proofs.crew.solve.Goals as goal
 

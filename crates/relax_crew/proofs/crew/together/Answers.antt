@@ -1,4 +1,4 @@
-use Rattle.std.proofs.Common.{◌≡◌, rules}
+use Rattle.std.proofs.Common.{rules}
 use Rattle.relax_crew.specs.Forms.Turns.{HasRun}
 use Rattle.relax_crew.proofs.Joins.{joined_run}
 use Rattle.relax_crew.proofs.crew.together.Goals as goal
