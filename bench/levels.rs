@@ -4,13 +4,14 @@ use crate::design::Design;
 use crate::network::Network;
 use crate::projection::{Sum, project};
 use crate::regions::Regions;
-use crate::solving::System;
+use crate::solving::{Method, System};
 
 /// How a run goes: how often the core is cut, with how many seats, where by a crew, and whether it tells its work.
 #[derive(Clone, Copy)]
 pub struct Way {
     pub levels: u32,
     pub seats: Option<usize>,
+    pub method: Method,
     pub tell: bool,
 }
 
@@ -98,8 +99,8 @@ fn solve<S: Sum>(system: &System<S>, name: &str, way: &Way) -> Solved {
     };
     match way.seats {
         Some(seats) => {
-            let (lower, raising) = system.solve_by_crew::<true>(seats);
-            let (upper, lowering) = system.solve_by_crew::<false>(seats);
+            let (lower, raising) = system.solve_by_crew::<true>(seats, way.method);
+            let (upper, lowering) = system.solve_by_crew::<false>(seats, way.method);
             tell("lower", format!("relaxations {raising:?}"));
             tell("upper", format!("relaxations {lowering:?}"));
             [lower, upper]

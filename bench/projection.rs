@@ -39,6 +39,23 @@ pub struct Axis<S> {
     pub anchored: Vec<S>,
 }
 
+impl<S: Sum> Axis<S> {
+    /// The ends of the boxes and the sums over 2 ^ shift, the lows rounded down, the highs up, and the sums down or up.
+    pub fn halved<const UP: bool>(&self, shift: u32) -> Axis<S> {
+        let power = 1u64 << shift;
+        let whole = if UP { S::from(0) } else { S::from(power - 1) };
+        Axis {
+            lows: self.lows.iter().map(|low| low >> shift).collect(),
+            highs: self.highs.iter().map(|high| high.div_ceil(power)).collect(),
+            anchored: self
+                .anchored
+                .iter()
+                .map(|sum| (*sum + whole) / S::from(power))
+                .collect(),
+        }
+    }
+}
+
 fn clamped(region: &Region, axis: usize, at: u64) -> u64 {
     at.min(region.high[axis]).max(region.low[axis])
 }

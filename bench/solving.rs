@@ -4,6 +4,19 @@ use crate::projection::{Axis, Projection, Sum};
 use std::sync::atomic::{AtomicU64, Ordering::SeqCst};
 use std::thread;
 
+/// How a crew solves: with how many halvings it begins, and how many passes over its marks a seat makes at most.
+#[derive(Clone, Copy)]
+pub struct Method {
+    pub shift: u32,
+    pub passes: u32,
+}
+
+/// What the seats of a crew share: a word and a mark per point.
+struct Table {
+    words: Vec<AtomicU64>,
+    marks: Vec<AtomicU64>,
+}
+
 /// The equations of a level on one axis.
 pub struct System<'a, S> {
     pub totals: &'a [u64],
@@ -16,11 +29,27 @@ fn words_of(ends: &[u64]) -> Vec<AtomicU64> {
     ends.iter().map(|end| AtomicU64::new(*end)).collect()
 }
 
+/// One mark for each point.
+fn marks_of(points: usize) -> Vec<AtomicU64> {
+    let bits = |first: usize| u64::MAX >> (64 - (points - first).min(64));
+    (0..points)
+        .step_by(64)
+        .map(|first| AtomicU64::new(bits(first)))
+        .collect()
+}
+
 /// What a seat did: how many points it relaxed, and how often that moved the point's word.
 #[derive(Clone, Copy, Default)]
 pub struct Work {
     pub relaxations: u64,
     pub moves: u64,
+}
+
+/// Whether a relaxation moved an entry of what the seat has seen, and whether it moved the point's word.
+#[derive(Clone, Copy, Default)]
+struct Moved {
+    seen: bool,
+    word: bool,
 }
 
 /// Whether `b` stands past `a` on the way up, or down.
@@ -84,25 +113,66 @@ impl<S: Sum> System<'_, S> {
         moved
     }
 
-    /// The same vector by a crew of seats on one shared word per point, and the relaxations of each seat.
-    pub fn solve_by_crew<const UP: bool>(&self, seats: usize) -> (Vec<u64>, Vec<u64>) {
+    /// The same vector by a crew of seats, on systems that are halved less and less, and the relaxations of each seat.
+    pub fn solve_by_crew<const UP: bool>(
+        &self,
+        seats: usize,
+        method: Method,
+    ) -> (Vec<u64>, Vec<u64>) {
+        let points = self.totals.len();
+        let mut found = vec![if UP { 0 } else { u64::MAX / 2 }; points];
+        let mut counts = vec![0; seats];
+        for shift in (0..=method.shift).rev() {
+            let axis = self.axis.halved::<UP>(shift);
+            let halved = System {
+                axis: &axis,
+                ..*self
+            };
+            let ends = halved.start::<UP>();
+            let doubled = found.iter().zip(ends).map(|(entry, end)| {
+                let twice = entry * 2;
+                if UP { twice.max(*end) } else { twice.min(*end) }
+            });
+            let start: Vec<u64> = doubled.collect();
+            let (seen, more) = halved.settle_by_crew::<UP>(&start, seats, method.passes);
+            found = seen;
+            for (count, more) in counts.iter_mut().zip(more) {
+                *count += more;
+            }
+        }
+        (found, counts)
+    }
+
+    /// The same vector by a crew of seats on one shared word per point, from a start.
+    fn settle_by_crew<const UP: bool>(
+        &self,
+        start: &[u64],
+        seats: usize,
+        passes: u32,
+    ) -> (Vec<u64>, Vec<u64>) {
         const APART: usize = 16;
-        let start = self.start::<UP>();
         let points = start.len();
-        let words = words_of(start);
+        let table = Table {
+            words: words_of(start),
+            marks: marks_of(points),
+        };
         // Each seat's view has a margin on both sides, so that no two share a cache line or a pair of them.
         let mut view = vec![0; points + 2 * APART];
         view[APART..APART + points].copy_from_slice(start);
         let mut views = vec![view; seats];
+        let take_turn = |k: usize, view: &mut Vec<u64>| {
+            let range = (k * points / seats, (k + 1) * points / seats);
+            self.take_turn::<UP>(&table, &mut view[APART..APART + points], range, passes)
+        };
+        if seats == 1 {
+            let count = take_turn(0, &mut views[0]);
+            return (views[0][APART..APART + points].to_vec(), vec![count]);
+        }
         let counts = thread::scope(|scope| {
             let handles: Vec<_> = views
                 .iter_mut()
                 .enumerate()
-                .map(|(k, view)| {
-                    let (words, seen) = (&words[..], &mut view[APART..APART + points]);
-                    let range = (k * points / seats, (k + 1) * points / seats);
-                    scope.spawn(move || self.take_turn::<UP>(words, seen, range))
-                })
+                .map(|(k, view)| scope.spawn(move || take_turn(k, view)))
                 .collect();
             handles
                 .into_iter()
@@ -121,24 +191,65 @@ impl<S: Sum> System<'_, S> {
         (seen, work)
     }
 
-    /// What one seat does: it relaxes its range once, settles its range, and settles all points.
+    /// What one seat does: it relaxes its range once, chases the marks of its range, settles its range, and settles all points.
     fn take_turn<const UP: bool>(
         &self,
-        words: &[AtomicU64],
+        table: &Table,
         seen: &mut [u64],
         range: (usize, usize),
+        passes: u32,
     ) -> u64 {
         let mut work = Work::default();
+        let words = &table.words[..];
         self.relax::<UP>(words, seen, range, &mut work);
+        self.chase::<UP>(table, seen, range, passes, &mut work);
         while self.relax::<UP>(words, seen, range, &mut work) {}
         while self.relax::<UP>(words, seen, (0, words.len()), &mut work) {}
         work.relaxations
     }
 
+    /// Takes the mark words of a range of points, pass after pass, and relaxes the points whose marks are found. Where that moved a
+    /// point's word, it marks the neighbours.
+    #[inline(never)]
+    fn chase<const UP: bool>(
+        &self,
+        table: &Table,
+        seen: &mut [u64],
+        (from, to): (usize, usize),
+        passes: u32,
+        work: &mut Work,
+    ) {
+        let near = self.projection;
+        let end = if from < to {
+            to.div_ceil(64)
+        } else {
+            from / 64
+        };
+        let mut found = true;
+        for _ in 0..passes {
+            if !std::mem::take(&mut found) {
+                break;
+            }
+            for word in from / 64..end {
+                let mut left = table.marks[word].swap(0, SeqCst);
+                found |= left != 0;
+                while left != 0 {
+                    let i = word * 64 + left.trailing_zeros() as usize;
+                    left &= left - 1;
+                    // SAFETY: only points have marks.
+                    let relaxed = unsafe { self.relax_point::<UP>(&table.words, seen, i, work) };
+                    work.relaxations += 1;
+                    if relaxed.word {
+                        for other in &near.numbers[near.starts[i]..near.starts[i + 1]] {
+                            table.marks[*other as usize / 64].fetch_or(1 << (other % 64), SeqCst);
+                        }
+                    }
+                }
+            }
+        }
+    }
+
     /// Relaxes each point of a range once. Whether an entry of what the seat has seen moved.
-    ///
-    /// A relaxation loads the words of the neighbours into the seat's view, and then renews the point's word by the mean of
-    /// what was seen: a load first, and a fetch only where the mean stands past the word.
     #[inline(never)]
     fn relax<const UP: bool>(
         &self,
@@ -147,35 +258,54 @@ impl<S: Sum> System<'_, S> {
         (from, to): (usize, usize),
         work: &mut Work,
     ) -> bool {
-        let near = self.projection;
         let mut moved = false;
         for i in from..to {
-            // SAFETY: words and view have one entry per point, the starts ascend, and each neighbour is a point.
-            unsafe {
-                for k in *near.starts.get_unchecked(i)..*near.starts.get_unchecked(i + 1) {
-                    let other = *near.numbers.get_unchecked(k) as usize;
-                    let word = words.get_unchecked(other).load(SeqCst);
-                    moved |= word != *seen.get_unchecked(other);
-                    *seen.get_unchecked_mut(other) = word;
-                }
-                let mean = self.mean::<UP>(i, seen);
-                let word = words.get_unchecked(i);
-                let mut new = word.load(SeqCst);
-                if is_past::<UP>(new, mean) {
-                    let old = if UP {
-                        word.fetch_max(mean, SeqCst)
-                    } else {
-                        word.fetch_min(mean, SeqCst)
-                    };
-                    let past = is_past::<UP>(old, mean);
-                    new = if past { mean } else { old };
-                    work.moves += u64::from(past);
-                }
-                moved |= new != *seen.get_unchecked(i);
-                *seen.get_unchecked_mut(i) = new;
-            }
+            // SAFETY: the range is one of points.
+            moved |= unsafe { self.relax_point::<UP>(words, seen, i, work) }.seen;
         }
         work.relaxations += (to - from) as u64;
+        moved
+    }
+
+    /// A relaxation loads the words of the neighbours into the seat's view, and then renews the point's word by the mean of
+    /// what was seen: a load first, and a fetch only where the mean stands past the word.
+    ///
+    /// # Safety
+    /// `i` is a point, and words and view have one entry per point.
+    #[inline(always)]
+    unsafe fn relax_point<const UP: bool>(
+        &self,
+        words: &[AtomicU64],
+        seen: &mut [u64],
+        i: usize,
+        work: &mut Work,
+    ) -> Moved {
+        let near = self.projection;
+        let mut moved = Moved::default();
+        // SAFETY: words and view have one entry per point, the starts ascend, and each neighbour is a point.
+        unsafe {
+            for k in *near.starts.get_unchecked(i)..*near.starts.get_unchecked(i + 1) {
+                let other = *near.numbers.get_unchecked(k) as usize;
+                let word = words.get_unchecked(other).load(SeqCst);
+                moved.seen |= word != *seen.get_unchecked(other);
+                *seen.get_unchecked_mut(other) = word;
+            }
+            let mean = self.mean::<UP>(i, seen);
+            let word = words.get_unchecked(i);
+            let mut new = word.load(SeqCst);
+            if is_past::<UP>(new, mean) {
+                let old = if UP {
+                    word.fetch_max(mean, SeqCst)
+                } else {
+                    word.fetch_min(mean, SeqCst)
+                };
+                moved.word = is_past::<UP>(old, mean);
+                new = if moved.word { mean } else { old };
+                work.moves += u64::from(moved.word);
+            }
+            moved.seen |= new != *seen.get_unchecked(i);
+            *seen.get_unchecked_mut(i) = new;
+        }
         moved
     }
 }

@@ -88,7 +88,10 @@ impl Gate for Meeting {
     }
 }
 
-/// Words that ask for two seats, and how many solves there are: from below and from above, on each axis, at each level.
+/// How many systems are solved for one vector: those with 20 halvings and fewer, and the system itself.
+const SHIFTS: u64 = 21;
+
+/// Words that ask for two seats, and how many vectors there are: from below and from above, on each axis, at each level.
 const MEETINGS: [(&[&str], u64); 2] = [
     (&["proud", "--levels", "0", "--seats", "2", "a.aux"], 4),
     (&["proud", "--levels", "1", "--seats", "2", "a.aux"], 8),
@@ -98,7 +101,7 @@ const MEETINGS: [(&[&str], u64); 2] = [
 #[test]
 fn proud_meets(rt: HostRuntime) -> Result<(), Fail> {
     let alloc = rt.alloc();
-    for (words, solves) in MEETINGS {
+    for (words, vectors) in MEETINGS {
         let mut folder = MemFolder::new(files_of(alloc, TWO_CELLS)?, Calls::new(alloc));
         let mut report = MemSink::new(alloc, Calls::new(alloc));
         let words = words_of(alloc, words)?;
@@ -108,8 +111,8 @@ fn proud_meets(rt: HostRuntime) -> Result<(), Fail> {
         };
         let status = proud(&rt, alloc, &words, &mut folder, &mut report, &gate);
         assert_eq!(rt; status, Status::Done);
-        assert!(rt; gate.first.has_met(solves));
-        assert!(rt; gate.second.has_met(solves));
+        assert!(rt; gate.first.has_met(vectors * SHIFTS));
+        assert!(rt; gate.second.has_met(vectors * SHIFTS));
     }
     Ok(())
 }
@@ -142,12 +145,12 @@ impl Watch {
         Ok(Watch { words })
     }
 
-    /// In each of so many solves each point has been passed once, by its owner.
-    fn shows(&self, rt: &impl Abort, owners: &[u8], solves: u64) {
-        assert!(rt; solves <= 8 && self.words.len() == owners.len());
+    /// In each solve for so many vectors each point has been passed once, by its owner.
+    fn shows(&self, rt: &impl Abort, owners: &[u8], vectors: u64) {
+        assert!(rt; vectors <= 8 && self.words.len() == owners.len());
         for i in 0..owners.len() {
             let word = self.words[i].load(Ordering::SeqCst);
-            assert_eq!(rt; word, solves * (100 + u64::from(owners[i])));
+            assert_eq!(rt; word, vectors * SHIFTS * (100 + u64::from(owners[i])));
         }
     }
 }
@@ -160,7 +163,7 @@ impl Gate for Watch {
     }
 }
 
-/// Words that ask for levels and seats, which seat owns each of the four cells, and how many solves there are.
+/// Words that ask for levels and seats, which seat owns each of the four cells, and how many vectors there are.
 type Deal = (&'static [&'static str], &'static [u8], u64);
 
 const DEALS: [Deal; 7] = [
@@ -197,14 +200,14 @@ const DEALS: [Deal; 7] = [
 #[test]
 fn as_many_seats_work_as_are_asked_for(rt: HostRuntime) -> Result<(), Fail> {
     let alloc = rt.alloc();
-    for (words, owners, solves) in DEALS {
+    for (words, owners, vectors) in DEALS {
         let mut folder = MemFolder::new(files_of(alloc, four_cells())?, Calls::new(alloc));
         let mut report = MemSink::new(alloc, Calls::new(alloc));
         let gate = Watch::over(alloc, 4)?;
         let words = words_of(alloc, words)?;
         let status = proud(&rt, alloc, &words, &mut folder, &mut report, &gate);
         assert_eq!(rt; status, Status::Done);
-        gate.shows(&rt, owners, solves);
+        gate.shows(&rt, owners, vectors);
     }
     Ok(())
 }

@@ -114,6 +114,23 @@ fn rounds(rt: HostRuntime) -> Result<(), Fail> {
     Ok(())
 }
 
+/// Of the pair halved once: the ends of the boxes, and the constants' sums rounded down and up.
+const HALVED: [(u64, u64, u128, u128); 2] = [(0, 2, 0, 0), (0, 2, 1, 2)];
+
+#[test]
+fn halves(rt: HostRuntime) -> Result<(), Fail> {
+    let system = system_of(&rt, rt.alloc(), &PAIR)?;
+    let down = system.halved_down(rt.alloc(), 1)?;
+    let up = system.halved_up(rt.alloc(), 1)?;
+    for (i, (lo, hi, below, above)) in HALVED.iter().enumerate() {
+        assert!(rt; i < down.points() && i < up.points());
+        let (low, high) = (down.point(i), up.point(i));
+        assert_eq!(rt; (low.lo, low.hi, low.anchored), (*lo, *hi, *below));
+        assert_eq!(rt; (high.lo, high.hi, high.anchored), (*lo, *hi, *above));
+    }
+    Ok(())
+}
+
 #[test]
 fn a_vector_keeps_its_entries(rt: HostRuntime) -> Result<(), Fail> {
     let mut v = Values::new(rt.alloc());

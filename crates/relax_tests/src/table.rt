@@ -31,6 +31,8 @@ enum Act {
     Look(usize, u64),
     Fetch(usize, u64, u64),
     Relax(usize, u64, u64),
+    /// The mark words, how many passes at most, and how many the seat has taken then.
+    Chase(usize, usize, u64, u64),
     SettleRange(usize, usize),
     Settle,
 }
@@ -93,6 +95,20 @@ const RISES: &[Script] = &[
         ],
         joined: (&[], &[1, 3, 5], 5),
     },
+    // a chase that finds the marks of both points, that of the one whose neighbour was raised, and none
+    Script {
+        rows: &PAIR,
+        alone: (&[Act::Chase(0, 1, 64, 3)], &[0, 1], 1),
+        turns: &[(&[], &[0, 1], 1)],
+        joined: (&[], &[0, 1], 1),
+    },
+    // a chase of two passes, and one that goes on with the marks that it left until there are none
+    Script {
+        rows: &TRIO,
+        alone: (&[Act::Chase(0, 1, 2, 2)], &[0, 2, 4], 2),
+        turns: &[(&[Act::Chase(0, 1, 64, 7)], &[1, 3, 6], 6)],
+        joined: (&[], &[1, 3, 6], 6),
+    },
     // a seat counts the raises that it makes as it settles a fresh table
     Script {
         rows: &PAIR,
@@ -146,6 +162,12 @@ const FALLS: &[Script] = &[
     Script {
         rows: &PAIR,
         alone: (&[Act::Settle], &[2, 3], 1),
+        turns: &[],
+        joined: (&[], &[2, 3], 1),
+    },
+    Script {
+        rows: &PAIR,
+        alone: (&[Act::Chase(0, 1, 64, 3)], &[2, 3], 1),
         turns: &[],
         joined: (&[], &[2, 3], 1),
     },
@@ -221,6 +243,12 @@ fn rise<L: Ledger>(
             assert!(rt; i < points);
             assert_eq!(rt; table.relax(seat, i, steps), Raised { old, new });
         }
+        Act::Chase(from, to, passes, takes) => {
+            assert!(rt; from <= to && to < 1000 && passes <= 64);
+            assert!(rt; to == 0 || 64 * (to - 1) < points);
+            table.chase(seat, from, to, passes, steps);
+            assert_eq!(rt; seat.takes(), takes);
+        }
         Act::SettleRange(from, to) => {
             assert!(rt; from <= to && to <= points);
             table.settle_range(seat, from, to, steps);
@@ -281,6 +309,12 @@ fn fall<L: Ledger>(
         Act::Relax(i, old, new) => {
             assert!(rt; i < points);
             assert_eq!(rt; table.relax(seat, i, steps), Lowered { old, new });
+        }
+        Act::Chase(from, to, passes, takes) => {
+            assert!(rt; from <= to && to < 1000 && passes <= 64);
+            assert!(rt; to == 0 || 64 * (to - 1) < points);
+            table.chase(seat, from, to, passes, steps);
+            assert_eq!(rt; seat.takes(), takes);
         }
         Act::SettleRange(from, to) => {
             assert!(rt; from <= to && to <= points);
