@@ -11,8 +11,8 @@ use Rattle.relax_system.specs.declared.side.Side.{Side}
 use Rattle.relax_system.specs.declared.points.Point.{Point}
 use Rattle.relax_system.specs.System.{point_at}
 use Rattle.relax_table.specs.declared.rule.View.{View}
-use Rattle.relax_table.specs.Seats.{TableState, SeatState, IsSeatOf, IsSound, Advances, GoesOn, mark_words, idle_after, taken_once, near_numbers, sweep_steps}
-use Rattle.relax_table.specs.Forms.Chase.{IsChased}
+use Rattle.relax_table.specs.Seats.{TableState, SeatState, IsSeatOf, IsSound, Advances, GoesOn, mark_words, near_numbers, sweep_steps}
+use Rattle.relax_table.specs.Forms.Chase.{idle_after, taken_once, IsChased}
 use Rattle.relax_table.specs.Forms.Rule.{state_of, IsHeld, taken}
 use Rattle.relax_table.proofs.Vectors.{AllBefore-refl}
 use Rattle.relax_table.proofs.Seated.{advances_none, advances_on}

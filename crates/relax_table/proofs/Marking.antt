@@ -5,7 +5,7 @@ use Rattle.std.specs.List.{slice_index}
 use Rattle.std.proofs.lemmas.List.{get_or_append_left}
 use Rattle.std.proofs.Math.Seq.{get_or-append_seam}
 use Rattle.std.proofs.lemmas.Nat.Bits.{ones_shr}
-use Rattle.relax_table.specs.Seats.{marks_at}
+use Rattle.relax_table.specs.Forms.Chase.{marks_at}
 
 -- the word of all ones, shifted down to as many as there are points
 pub marks_shifted : (points : ℕ) → points ≤ 64 → (2 ^ 64 - 1) / 2 ^ (64 - points) ≡ 2 ^ points - 1

@@ -1,5 +1,5 @@
 -- What clauses see of a table and of a seat.
-use Rattle.std.specs.Prelude.{◌≡◌, ◌≢◌, ℕ, ◌+◌, ◌-◌, ◌*◌, ◌/◌, ◌^◌, ◌<◌, ◌≤◌, min, zero, suc, List, ◌++◌, length, map, take, drop, sum_by, All}
+use Rattle.std.specs.Prelude.{◌≡◌, ◌≢◌, ℕ, ◌+◌, ◌-◌, ◌*◌, ◌/◌, ◌<◌, ◌≤◌, List, ◌++◌, length, map, take, drop, sum_by, All}
 use Rattle.std.specs.List.{range_with_len, flat_map}
 use Rattle.atomic_table.specs.Seated.{TableId}
 use Rattle.relax_system.specs.declared.side.Side.{Side}
@@ -75,19 +75,6 @@ pub record GoesOn (old new : SeatState) : Type 0 where
 -- how many mark words the points of a table have, with a bit for each
 abbrev pub mark_words : ℕ → ℕ
 mark_words n = (n + 63) / 64
-
--- the mark word q of a new table of n points: all bits of the points that it stands for, and no others
-abbrev pub marks_at : ℕ → ℕ → ℕ
-marks_at n q = 2 ^ min (n - 64 * q) 64 - 1
-
--- how many takes in a row found no bit, after one more that found x
-abbrev pub idle_after : ℕ → ℕ → ℕ
-idle_after zero idle = idle + 1
-idle_after (suc x) idle = 0
-
--- the same seat with one take more, which found x
-abbrev pub taken_once : SeatState → ℕ → SeatState
-taken_once s x = record s { takes = s.takes + 1; idle = idle_after x s.idle }
 
 -- Its takes grew by whole passes over the mark words from the one number to before the other: by one pass at least where one is
 -- allowed, and by no more than are allowed. Where it made fewer than are allowed, its last pass found no bit. Of its last two passes

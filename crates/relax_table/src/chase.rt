@@ -2,8 +2,8 @@
 
 ghost use Rattle.std.specs.Prelude.{◌≡◌, ℕ, ◌+◌, ◌-◌, ◌*◌, ◌<◌, ◌≤◌, min, length, MatchBool};
 ghost use Rattle.relax_system.specs.System.{point_at};
-ghost use Rattle.relax_table.specs.Seats.{IsSeatOf, Advances, GoesOn, TakesPasses, mark_words, taken_once, sweep_steps};
-ghost use Rattle.relax_table.specs.Forms.Chase.{IsChased};
+ghost use Rattle.relax_table.specs.Seats.{IsSeatOf, Advances, GoesOn, TakesPasses, mark_words, sweep_steps};
+ghost use Rattle.relax_table.specs.Forms.Chase.{taken_once, IsChased};
 ghost use Rattle.relax_table.specs.declared.chase.TheConstants.{MOST_PASSES};
 
 use crate::direction::Direction;

@@ -1,7 +1,8 @@
 //! Mark words: behind the words of the points a table has a bit for each point, 64 of them in a word.
 
 ghost use Rattle.std.specs.Prelude.{◌≡◌, ℕ, ◌+◌, ◌<◌, length, take, slice_index, IfOk};
-ghost use Rattle.relax_table.specs.Seats.{mark_words, marks_at};
+ghost use Rattle.relax_table.specs.Seats.{mark_words};
+ghost use Rattle.relax_table.specs.Forms.Chase.{marks_at};
 
 use book_text::Memory;
 use std::alloc::Global;

@@ -122,9 +122,8 @@ impl<'a, D: Direction> SideTable<'a, D> {
         ensures advances { Advances D.side seat.old seat.new }
         ensures word { result.fetch.new ≡ word_after D.side self.now.system Renew i result.fetch.old seat.new.seen }
         ensures entry { slice_index seat.new.seen i ≡ result.fetch.new }
-        ensures counts { (seat.new.loads ≡ seat.old.loads + length (point_at self.now.system i).near) × (seat.new.fetches ≡ seat.old.fetches + 1) × (seat.new.moves ≡ seat.old.moves + one_if (is_past D.side result.fetch.old result.fetch.new)) × (steps.new ≡ steps.old + (length (point_at self.now.system i).near + 1)) }
+        ensures counts { (seat.new.loads ≡ seat.old.loads + length (point_at self.now.system i).near) × (seat.new.fetches ≡ seat.old.fetches + 1) × (seat.new.moves ≡ seat.old.moves + one_if (is_past D.side result.fetch.old result.fetch.new)) × (steps.new ≡ steps.old + (length (point_at self.now.system i).near + 1)) × (seat.new.idle ≡ seat.old.idle) }
         ensures points { (seat.new.looked ≡ seat.old.looked ++ near_numbers self.now.system i) × (seat.new.renewed ≡ seat.old.renewed ++ i ∷ []) × (seat.new.parts ≡ seat.old.parts) × (seat.new.takes ≡ seat.old.takes) }
-        ensures idle { seat.new.idle ≡ seat.old.idle }
         ensures others { (j : ℕ) → j ≢ i → IsNoNeighbour self.now.system i j → slice_index seat.new.seen j ≡ slice_index seat.old.seen j }
         ensures found { (result.fetch.old ≡ seat.new.found) × Before D.side (slice_index seat.old.seen i) result.fetch.old }
         ensures quiet { Before D.side (mean_of D.side self.now.system i seat.new.seen) (slice_index seat.new.seen i) }

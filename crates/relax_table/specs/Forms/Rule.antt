@@ -13,7 +13,8 @@ use Rattle.relax_table.specs.declared.rule.View.{View}
 use Rattle.relax_table.specs.Ways.{is_past, one_if, IsQuietVector}
 use Rattle.relax_table.specs.Step.{Kind, word_after, seen_after}
 use Rattle.relax_table.specs.Step.Kind.{Load, Renew}
-use Rattle.relax_table.specs.Seats.{SeatState, IsSound, idle_after}
+use Rattle.relax_table.specs.Seats.{SeatState, IsSound}
+use Rattle.relax_table.specs.Forms.Chase.{idle_after}
 
 -- a seat as clauses see it
 abbrev pub state_of : TableId → View → SeatState

@@ -1,6 +1,6 @@
 use Rattle.std.proofs.Common.{◌≡◌, ℕ, ◌-◌, ◌*◌, ◌/◌, ◌^◌, List, [], ◌∷◌, ◌++◌, min, length, length-append, ap, ◌∙◌, arith}
 use Rattle.std.proofs.lemmas.List.{take-append-le}
-use Rattle.relax_table.specs.Seats.{marks_at}
+use Rattle.relax_table.specs.Forms.Chase.{marks_at}
 use Rattle.relax_table.proofs.Marking.{marks_shifted, marks_more}
 use Rattle.relax_table.proofs.marks.marked.Goals as goal
 

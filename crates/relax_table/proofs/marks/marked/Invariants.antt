@@ -1,6 +1,6 @@
 use Rattle.std.proofs.Common.{◌≡◌, ℕ, ◌+◌, ◌<◌, length, take}
 use Rattle.std.specs.List.{slice_index}
-use Rattle.relax_table.specs.Seats.{marks_at}
+use Rattle.relax_table.specs.Forms.Chase.{marks_at}
 use Rattle.relax_table.proofs.marks.marked.Given as goal
 
 -- the start stands before the mark words so far

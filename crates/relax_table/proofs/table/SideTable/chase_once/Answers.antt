@@ -1,5 +1,6 @@
 use Rattle.std.proofs.Common.{◌≡◌, ◌+◌, ◌-◌, ap, ◌∙◌, arith}
-use Rattle.relax_table.specs.Seats.{SeatState, idle_after}
+use Rattle.relax_table.specs.Seats.{SeatState}
+use Rattle.relax_table.specs.Forms.Chase.{idle_after}
 use Rattle.relax_table.proofs.Chases.{chased_none, chased_on, chased_within, chased_taken, word_cost, idle_more}
 use Rattle.relax_table.proofs.table.SideTable.chase_once.Goals as goal
 

@@ -14,4 +14,4 @@ returns-else-fetch-clause-chased g c =
     chased_relaxed g.D.Direction.side c.args.self.now c.args.seat.now c.relax_side.new.seat c.args.i c.args.steps.now c.relax_side.new.steps c.relax_side.ensures.own c.relax_side.ensures.advances c.relax_side.ensures.counts.0 c.relax_side.ensures.counts.1 c.relax_side.ensures.counts.3 c.relax_side.ensures.points
 
 pub returns-then-fetch-clause-idle : goal.returns-then-fetch-clause-idle
-returns-then-fetch-clause-idle g c = ap (λ (s : SeatState). s.idle) c.mark_around.ensures ∙ c.relax_side.ensures.idle
+returns-then-fetch-clause-idle g c = ap (λ (s : SeatState). s.idle) c.mark_around.ensures ∙ c.relax_side.ensures.counts.4
