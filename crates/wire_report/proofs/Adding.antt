@@ -1,42 +1,32 @@
--- The sum over the nets, from threads that add without a test.
-use Rattle.std.proofs.Common.{◌≡◌, ℕ, ◌*◌, ◌%◌, ◌^◌, ◌<◌, ◌≤◌, List, [], ◌∷◌, length, map, get_or, ◌∙◌, ap, sym, subst, refl, arith}
-use Rattle.std.specs.Prelude.{sum}
-use Rattle.std.specs.List.{AllByRecursion, AllZip, sum_by}
-use Rattle.std.proofs.lemmas.List.{get_or-map, length-map}
-use Rattle.std.proofs.lemmas.List.Sums.{sum_by-cons}
+-- The sum over the nets, piece by piece.
+use Rattle.std.proofs.Common.{◌≡◌, ℕ, ◌+◌, ◌<◌, ◌≤◌, List, length, take, drop, ap, sym, subst, arith}
+use Rattle.std.specs.List.{AllByRecursion}
+use Rattle.std.proofs.lemmas.List.{get_or-map, length-map, take-map, drop-map, length-take-le, length-drop}
+use Rattle.std.proofs.lemmas.List.Sums.{sum_by-take-drop}
 use Rattle.std.proofs.lemmas.List.Elements.{All-from_recursion}
 use Rattle.book_design.specs.declared.parts.Net.{Net}
 use Rattle.book_design.specs.Values.{NetValue, DesignValue}
 use Rattle.book_design.specs.Nets.{net_value, net_values}
-use Rattle.book_design.specs.WellFormed.{IsDesign, IsGoodNet, IsGoodPin}
+use Rattle.book_design.specs.WellFormed.{IsDesign, IsGoodNet}
+use Rattle.wire_report.specs.declared.corner.Corner.{Corner}
+use Rattle.wire_report.specs.Wire.{net_length}
+use Rattle.wire_report.specs.Forms.Sums.{AllGood, IsSumOf}
 
--- the pins of a net, as it is read
-pub pins_good : (design : DesignValue) (nets : List Net) (k : ℕ) (d net : Net) → IsDesign design → net_values nets ≡ design.nets → k < length nets → net ≡ get_or nets k d
-    → AllByRecursion (IsGoodPin (length design.nodes)) net.pins
-pins_good design nets k d net valid same there is =
+-- the nets of a design, as they are read
+pub all_good : (design : DesignValue) (nets : List Net) → IsDesign design → net_values nets ≡ design.nets → AllGood (length design.nodes) nets
+all_good design nets valid same = λ k d there.
     let Good = IsGoodNet (length design.nodes) in
     let all = subst (λ (list : List NetValue). AllByRecursion Good list) (sym same) valid.nets in
     let inside : k < length (net_values nets) = omega (arith, length-map nets net_value) in
-    let good = All-from_recursion Good (net_values nets) all k (net_value d) inside in
-    let here : get_or (net_values nets) k (net_value d) ≡ net_value net = get_or-map net_value nets k d (net_value d) there ∙ ap net_value (sym is) in
-    (subst Good here good).pins
+    subst Good (get_or-map net_value nets k d (net_value d) there) (All-from_recursion Good (net_values nets) all k (net_value d) inside)
 
-pub added : {A B : Type 0} (view : A → B) (f : B → ℕ) (xs : List A) (ys : List ℕ) → AllZip (λ x y. (y ≡ f (view x)) × (y < 2 ^ 64)) xs ys → sum ys ≡ sum_by f (map view xs)
-added view f [] [] h = refl
-added view f [] (y ∷ ys) h = absurd h
-added view f (x ∷ xs) [] h = absurd h
-added view f (x ∷ xs) (y ∷ ys) h = omega (arith, sum_by-cons (λ (n : ℕ). n) y ys, sum_by-cons f (view x) (map view xs), h.0.0, added view f xs ys h.1)
-
-pub few : {A B : Type 0} (view : A → B) (f : B → ℕ) (xs : List A) (ys : List ℕ) → AllZip (λ x y. (y ≡ f (view x)) × (y < 2 ^ 64)) xs ys → sum ys ≤ length xs * 2 ^ 64
-few view f [] [] h = omega arith
-few view f [] (y ∷ ys) h = absurd h
-few view f (x ∷ xs) [] h = absurd h
-few view f (x ∷ xs) (y ∷ ys) h = omega (arith, sum_by-cons (λ (n : ℕ). n) y ys, h.0.1, few view f xs ys h.1)
-
--- as many numbers as there are nets at most never wrap
-pub whole_sum : {A B : Type 0} (view : A → B) (f : B → ℕ) (xs : List A) (ys : List ℕ) (r : ℕ) → length xs < 2 ^ 32 → AllZip (λ x y. (y ≡ f (view x)) × (y < 2 ^ 64)) xs ys → r ≡ sum ys % 2 ^ 128
-    → r ≡ sum_by f (map view xs)
-whole_sum view f xs ys r short h is =
-    let bound = few view f xs ys h in
-    let small : sum ys < 2 ^ 128 = omega (arith, bound, short) in
-    omega (arith, is, small, added view f xs ys h)
+-- the sums of a piece and of the nets behind it
+pub both : (design : DesignValue) (corners : List Corner) (nets piece rest : List Net) (k sum others : ℕ) → k ≤ length nets → piece ≡ take k nets → rest ≡ drop k nets
+    → IsSumOf design corners piece sum → IsSumOf design corners rest others → IsSumOf design corners nets (sum + others)
+both design corners nets piece rest k sum others within first last front back =
+    let front_value = rw (first, ← take-map net_value k nets) at front.value in
+    let back_value = rw (last, ← drop-map net_value k nets) at back.value in
+    record {
+      value = omega (arith, front_value, back_value, sum_by-take-drop (net_length design corners) (net_values nets) k);
+      short = omega (arith, front.short, back.short, ap length first, ap length last, length-take-le k nets within, length-drop k nets);
+    }
