@@ -20,12 +20,15 @@ pub fn wire_length(design: &Design, corners: &[Corner], threads: usize) -> u128 
         let lengths = nets.iter().map(|net| length(design, corners, net));
         lengths.map(u128::from).sum()
     };
+    if design.nets.len() <= size {
+        return sum(&design.nets);
+    }
+    // This thread only waits: where it summed a part itself, a scheduler might leave a new thread behind it on its processor.
     thread::scope(|scope| {
-        let mut parts = design.nets.chunks(size);
-        let first = parts.next().unwrap_or(&[]);
-        let others: Vec<_> = parts.map(|nets| scope.spawn(move || sum(nets))).collect();
-        let others = others.into_iter().map(|sum| sum.join().expect("a part"));
-        sum(first) + others.sum::<u128>()
+        let parts = design.nets.chunks(size);
+        let sums: Vec<_> = parts.map(|nets| scope.spawn(move || sum(nets))).collect();
+        let sums = sums.into_iter().map(|sum| sum.join().expect("a part"));
+        sums.sum()
     })
 }
 
