@@ -1,10 +1,16 @@
 #!/usr/bin/env bash
 # What the ways of a crew cost: places designs, and grids without a cut, with one seat and with four, by hand from the ends of the
 # boxes with sweeps alone, with coarse numbers first, and with marks besides, and with the proved program, which does as the last.
-# It compares byte for byte what they print and place, and prints the relaxations of all seats and the medians of three runs in
-# milliseconds. Usage: bench/methods.sh [AUX | SIDE ..], by default the designs of designs/ and grids of 32 and of 60 cells a side.
+# It compares byte for byte what they print and place, and prints the relaxations of all seats and the medians of RUNS runs, by
+# default three, in milliseconds. Usage: bench/methods.sh [--runs RUNS] [AUX | SIDE ..], by default the designs of designs/ and grids
+# of 32 and of 60 cells a side.
 . "$(dirname "$0")/runs.sh"
 program=$(proud)
+runs=3
+if [ "${1-}" = --runs ]; then
+    runs=$2
+    shift 2
+fi
 [ $# -gt 0 ] || set -- "$bench"/../designs/*/*.aux 32 60
 
 # The relaxations that the last run of that name told, of all seats and all solves.
@@ -24,7 +30,7 @@ for given in "$@"; do
     esac
     for seats in 1 4; do
         rm -f "$work"/*.seconds
-        for _ in 1 2 3; do
+        for _ in $(seq "$runs"); do
             run sweeps "$by_hand" --tell --seats "$seats" --shift 0 --passes 0 "${words[@]}"
             run coarse "$by_hand" --tell --seats "$seats" --passes 0 "${words[@]}"
             run marks "$by_hand" --tell --seats "$seats" "${words[@]}"
