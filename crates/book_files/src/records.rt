@@ -4,7 +4,7 @@ use crate::orient::Orient;
 use crate::rows::Subrows;
 use book_text::Micro;
 
-/// The files of a design, in the order in which they are read.
+/// The files of a design, in the order in which they are read, and the schedule that may be read behind them.
 #[derive(Clone, Copy, Debug, PartialEq, Eq)]
 pub enum FileKind {
     Aux,
@@ -13,6 +13,7 @@ pub enum FileKind {
     Wts,
     Pl,
     Scl,
+    Schedule,
 }
 
 /// The names in an `.aux` file.

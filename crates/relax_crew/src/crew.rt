@@ -6,17 +6,17 @@ ghost use Rattle.relax_system.specs.Means.{InBoxes};
 ghost use Rattle.relax_system.specs.Sides.{AllBefore, start_of, starts_of, IsExtremal};
 ghost use Rattle.relax_system.specs.Halved.{doubled};
 ghost use Rattle.relax_table.specs.Ways.{IsQuietVector};
-ghost use Rattle.relax_table.specs.Seats.{IsSeatOf};
+ghost use Rattle.relax_table.specs.Seats.{IsSeatOf, BeginsWithSweep};
 ghost use Rattle.relax_crew.specs.Crew.{IsCrewSize};
 ghost use Rattle.relax_table.specs.Forms.Sweep.{SweepsOnce};
-ghost use Rattle.relax_crew.specs.Forms.Turns.{AllSeated, AllSingle, HasRun, BeginsWithTwoSweeps, IsTurn};
+ghost use Rattle.relax_crew.specs.Forms.Turns.{AllSeated, AllSingle, HasRun, IsTurnOver, IsTurn};
 ghost use Rattle.relax_crew.specs.Forms.Shifts.{IsSettled, IsReached, IsSolved};
 
-use crate::range::{MOST_SEATS, range_of};
+use crate::range::{MOST_SEATS, marks_of, range_of};
 use book_outer::Gate;
 use book_text::Memory;
 use relax_system::{MOST_COORDINATE, MOST_POINTS, MOST_SHIFT, Point, Side, System};
-use relax_table::{Direction, SideSeat, SideTable, Steps};
+use relax_table::{Direction, MOST_PASSES, SideSeat, SideTable, Steps};
 use std::alloc::Global;
 use std::marker::Brand;
 use std::sync::ledger::{Blank, Ledger};
@@ -237,7 +237,7 @@ fn together<D: Direction>(
     }
 }
 
-/// What the thread of seat `k` does: first of all two sweeps over its own range. Its steps aren't counted.
+/// What the thread of seat `k` does, over its own range first. Its steps aren't counted.
 fn take_turn<D: Direction, G: Gate>(
     table: &SideTable<'_, D>,
     mut seat: SideSeat<D>,
@@ -259,8 +259,8 @@ fn take_turn<D: Direction, G: Gate>(
     seat
 }
 
-/// What one seat does: it relaxes its range once, calling the gate after each point, settles its range, and settles all points.
-#[tactic(auto, using(crate::proofs::Sweeping::swept_on))]
+/// What one seat does: it relaxes its range once, calling the gate after each point, chases the mark words of its range, settles its
+/// range, and settles all points.
 fn work<D: Direction, L: Ledger, G: Gate>(
     table: &SideTable<'_, D>,
     seat: &mut SideSeat<D>,
@@ -272,18 +272,40 @@ fn work<D: Direction, L: Ledger, G: Gate>(
     requires own { IsSeatOf table.now seat.old }
     requires order { range.0 ≤ range.1 }
     requires within { range.1 ≤ length table.now.system }
+    requires few { range.1 ≤ MOST_POINTS }
     requires name { blank.name ≡ L.name }
     requires parts { blank.parts ≡ L.parts }
     requires any { 0 < L.parts }
     ensures own { IsSeatOf table.now seat.new }
     ensures extremal { IsExtremal D.side table.now.system seat.new.seen }
-    ensures swept { BeginsWithTwoSweeps table.now.system range.0 range.1 seat.old seat.new }
+    ensures turn { IsTurnOver table.now.system range.0 range.1 seat.old seat.new }
 {
     let mut steps = Steps::<L>::new(blank);
     let (from, to) = range;
     first_sweep(table, seat, k, range, gate, &mut steps);
-    table.settle_side(seat, from, to, &mut steps);
-    table.settle_all(seat, &mut steps);
+    let (first, end) = marks_of(from, to);
+    table.chase_side(seat, first, end, MOST_PASSES, &mut steps);
+    settle(table, seat, range, &mut steps);
+}
+
+/// Settles a range, and then all points.
+#[tactic(auto, using(crate::proofs::Sweeping::begun_and_more))]
+fn settle<D: Direction, L: Ledger>(
+    table: &SideTable<'_, D>,
+    seat: &mut SideSeat<D>,
+    range: (usize, usize),
+    steps: &mut Steps<L>,
+)
+    requires own { IsSeatOf table.now seat.old }
+    requires order { range.0 ≤ range.1 }
+    requires within { range.1 ≤ length table.now.system }
+    ensures own { IsSeatOf table.now seat.new }
+    ensures extremal { IsExtremal D.side table.now.system seat.new.seen }
+    ensures begins { BeginsWithSweep table.now.system range.0 range.1 seat.old seat.new }
+    ensures takes { seat.new.takes ≡ seat.old.takes }
+{
+    table.settle_side(seat, range.0, range.1, steps);
+    table.settle_all(seat, steps);
 }
 
 /// Relaxes each point of a range once, and calls the gate after each.

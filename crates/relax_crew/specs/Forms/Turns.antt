@@ -1,23 +1,36 @@
 -- How a crew deals out the points, and what its seats do.
-use Rattle.std.specs.Prelude.{◌≡◌, ℕ, ◌+◌, ◌*◌, ◌/◌, List, ◌++◌, length, All}
+use Rattle.std.specs.Prelude.{◌≡◌, ℕ, ◌+◌, ◌*◌, ◌/◌, List, length, All, Bool, true, false, nat_lt}
 use Rattle.relax_system.specs.declared.side.Side.{Side}
 use Rattle.relax_system.specs.declared.points.Point.{Point}
 use Rattle.relax_system.specs.Sides.{IsExtremal}
-use Rattle.relax_table.specs.Seats.{TableState, SeatState, IsSeatOf, IsFront, numbers_between, nears_between}
+use Rattle.relax_table.specs.declared.chase.TheConstants.{MOST_PASSES}
+use Rattle.relax_table.specs.Seats.{TableState, SeatState, IsSeatOf, BeginsWithSweep, TakesPasses, mark_words}
 
 -- the first point of the seat k, where so many points are dealt out to so many seats
 abbrev pub first_point : ℕ → ℕ → ℕ → ℕ
 first_point k seats points = k * points / seats
 
--- Its steps began with two sweeps over these points: the one that calls the gate, and the first one of its settling.
-pub record BeginsWithTwoSweeps (points : List Point) (from to : ℕ) (old new : SeatState) : Type 0 where
-  pub parts : new.parts ≡ old.parts
-  pub looked : IsFront ((old.looked ++ nears_between points from to) ++ nears_between points from to) new.looked
-  pub renewed : IsFront ((old.renewed ++ numbers_between from to) ++ numbers_between from to) new.renewed
+-- the mark word of a point
+abbrev pub first_mark : ℕ → ℕ
+first_mark from = from / 64
 
--- what the seat k of so many did: first of all two sweeps over its own points
+-- the mark word past the last one of the points from the one to before the other, if there are any
+abbrev pub marks_end : Bool → ℕ → ℕ → ℕ
+marks_end true from to = mark_words to
+marks_end false from to = first_mark from
+
+-- Its steps began with a sweep over these points, the one that calls the gate. Then it chased their mark words, and then its steps
+-- began with another such sweep, the first one of its settling; from then on it took no mark word.
+pub record IsTurnOver (points : List Point) (from to : ℕ) (old new : SeatState) : Type 0 where
+  pub chased : SeatState
+  pub first : BeginsWithSweep points from to old chased
+  pub chase : TakesPasses MOST_PASSES (first_mark from) (marks_end (nat_lt from to) from to) old chased
+  pub again : BeginsWithSweep points from to chased new
+  pub takes : new.takes ≡ chased.takes
+
+-- what the seat k of so many did: its turn over its own points
 abbrev pub IsTurn : List Point → ℕ → ℕ → SeatState → SeatState → Type 0
-IsTurn points k seats old new = BeginsWithTwoSweeps points (first_point k seats (length points)) (first_point (k + 1) seats (length points)) old new
+IsTurn points k seats old new = IsTurnOver points (first_point k seats (length points)) (first_point (k + 1) seats (length points)) old new
 
 -- each seat is one of the table
 abbrev pub AllSeated : TableState → List SeatState → Type 0

@@ -7,4 +7,4 @@ pub returns-clause-turn : goal.returns-clause-turn
 returns-clause-turn g c =
     let from : c.range_of-range.result.0 ≡ first_point c.args.k c.args.seats (length c.args.table.now.system) = c.range_of-range.ensures.from ∙ ap (λ (n : ℕ). first_point c.args.k c.args.seats n) c.requires.points in
     let to : c.range_of-range.result.1 ≡ first_point (c.args.k + 1) c.args.seats (length c.args.table.now.system) = c.range_of-range.ensures.to ∙ ap (λ (n : ℕ). first_point (c.args.k + 1) c.args.seats n) c.requires.points in
-    own_turn c.args.table.now.system c.args.k c.args.seats c.range_of-range.result.0 c.range_of-range.result.1 _ _ from to c.work.ensures.swept
+    own_turn c.args.table.now.system c.args.k c.args.seats c.range_of-range.result.0 c.range_of-range.result.1 _ _ from to c.work.ensures.turn
