@@ -14,9 +14,10 @@ ghost use Rattle.book_files.specs.Ranges.{IsInRange};
 
 use crate::level::{Level, Levels};
 use crate::projection::{coordinate, project};
-use crate::solving::Crew;
+use crate::solving::{Crew, Player, Solver};
 use area_cut::{Axis, Regions, cut, parts_share, whole};
 use book_outer::Gate;
+use book_files::Event;
 use book_text::Memory;
 use net_model::Network;
 use pad_reach::{Reach, reach_leads};
@@ -57,7 +58,7 @@ pub fn levels<R: Threads + Sync, G: Gate>(
     reach_leads();
     let _reach = reach;
     let _points = network.points();
-    levels_by(
+    levels_with(
         alloc,
         &Crew::new(rt, gate, options.seats),
         network,
@@ -65,10 +66,36 @@ pub fn levels<R: Threads + Sync, G: Gate>(
     )
 }
 
-/// The levels, by any solver.
-fn levels_by<R: Threads + Sync, G: Gate>(
+/// The same levels, each system solved by a schedule of events in place of a crew: on each axis and from both sides the events
+/// are played on a table with `options.seats` seats, and the first seat is settled then (`play` of `relax_world`). No thread is
+/// started and no gate called. An event whose seat or point isn't there does nothing. Only want of memory is refused.
+pub fn levels_by(
     alloc: Global,
-    solver: &Crew<'_, R, G>,
+    network: &Network,
+    reach: &Reach,
+    options: Options,
+    events: &[Event],
+) -> Result<Levels, Memory>
+    requires reach { Reaches (joints_of network.now) reach.now }
+    requires levels { options.levels ≤ MOST_LEVELS }
+    requires seats { IsCrewSize options.seats }
+    ensures { IfOk result (IsLevels network.now options.levels) }
+{
+    reach_leads();
+    let _reach = reach;
+    let _points = network.points();
+    levels_with(
+        alloc,
+        &Player::new(events, options.seats),
+        network,
+        options.levels,
+    )
+}
+
+/// The levels, by any solver.
+fn levels_with<S: Solver>(
+    alloc: Global,
+    solver: &S,
     network: &Network,
     count: u32,
 ) -> Result<Levels, Memory>
@@ -95,9 +122,9 @@ fn levels_by<R: Threads + Sync, G: Gate>(
 }
 
 /// The first level: all points share the core.
-fn first_level<R: Threads + Sync, G: Gate>(
+fn first_level<S: Solver>(
     alloc: Global,
-    solver: &Crew<'_, R, G>,
+    solver: &S,
     network: &Network,
 ) -> Result<Level, Memory>
     requires { HasChains network.now }
@@ -117,9 +144,9 @@ fn first_level<R: Threads + Sync, G: Gate>(
 }
 
 /// The level after this one.
-fn next_level<R: Threads + Sync, G: Gate>(
+fn next_level<S: Solver>(
     alloc: Global,
-    solver: &Crew<'_, R, G>,
+    solver: &S,
     network: &Network,
     areas: &[u64],
     level: &Level,
@@ -138,9 +165,9 @@ fn next_level<R: Threads + Sync, G: Gate>(
 }
 
 /// The level over these regions, solved with these mids.
-fn solved<R: Threads + Sync, G: Gate>(
+fn solved<S: Solver>(
     alloc: Global,
-    solver: &Crew<'_, R, G>,
+    solver: &S,
     network: &Network,
     regions: Regions,
     xs: &[u64],

@@ -5,7 +5,7 @@
 //! the region. What comes in is a network from each point of which a chain leads to a pad; what goes out is its levels, or
 //! `Memory`.
 //!
-//! The contract: `levels` answers `IsLevels`, and the law `levels_are_one` says that there is exactly one such list.
+//! The contract: `levels`, which a crew solves, and `levels_by`, which plays a schedule, answer `IsLevels`, and the law `levels_are_one` says that there is exactly one such list.
 #![tactic(auto)]
 
 mod hierarchy;
@@ -16,7 +16,7 @@ mod solving;
 mod spread;
 
 pub use area_cut::Axis;
-pub use hierarchy::{MOST_LEVELS, Options, levels};
+pub use hierarchy::{MOST_LEVELS, Options, levels, levels_by};
 pub use laws::{chains_stay, first_uses_no_mids, gap_is_one, levels_are_one, levels_enclose};
 pub use level::{Level, Levels, Solve};
 pub use projection::project;

@@ -6,12 +6,21 @@ ghost use Rattle.relax_crew.specs.Crew.{IsCrewSize};
 ghost use Rattle.level_run.specs.Levels.{IsSolve, halfway};
 
 use crate::level::Solve;
+use book_files::Event;
 use book_outer::Gate;
 use book_text::Memory;
 use relax_crew::{greatest, least};
-use relax_system::{System, Values};
+use relax_system::{Side, System, Values};
+use relax_world::play;
 use std::alloc::Global;
 use std::thread::Threads;
+
+/// Who solves the systems of levels.
+pub(crate) trait Solver {
+    /// The least and the greatest vector of a system, and what lies halfway.
+    fn solve(&self, alloc: Global, system: &System) -> Result<Solve, Memory>
+        ensures { IfOk result (IsSolve system.now) };
+}
 
 /// Who solves: the seats of a crew, what starts their threads, and the gate that is called.
 #[derive(Drop)]
@@ -31,16 +40,45 @@ impl<'a, R: Threads + Sync, G: Gate> Crew<'a, R, G> {
         Crew { rt, gate, seats }
     }
 
-    /// The least and the greatest vector of a system, and what lies halfway.
-    pub(crate) fn solve(&self, alloc: Global, system: &System) -> Result<Solve, Memory>
-        ensures { IfOk result (IsSolve system.now) }
-    {
+}
+
+impl<'a, R: Threads + Sync, G: Gate> Solver for Crew<'a, R, G> {
+    fn solve(&self, alloc: Global, system: &System) -> Result<Solve, Memory> {
         if system.points() == 0 {
             return Ok(empty(alloc));
         }
         let lo = least(self.rt, alloc, system, self.seats, self.gate)?;
         let hi = greatest(self.rt, alloc, system, self.seats, self.gate)?;
         solve_of(alloc, system, lo.seat.seen(), hi.seat.seen())
+    }
+}
+
+/// Who solves by a schedule: its events, and the seats that make them.
+#[derive(Drop)]
+pub(crate) struct Player<'a> {
+    events: &'a [Event],
+    seats: usize,
+    ghost size: { IsCrewSize seats },
+}
+
+impl<'a> Player<'a> {
+    /// The player of these events, by so many seats.
+    pub(crate) fn new(events: &'a [Event], seats: usize) -> Self
+        requires { IsCrewSize seats }
+        ensures { result.seats ≡ seats }
+    {
+        Player { events, seats }
+    }
+}
+
+impl<'a> Solver for Player<'a> {
+    fn solve(&self, alloc: Global, system: &System) -> Result<Solve, Memory> {
+        if system.points() == 0 {
+            return Ok(empty(alloc));
+        }
+        let lo = play(alloc, system, Side::Floor, self.seats as u32, self.events)?;
+        let hi = play(alloc, system, Side::Ceil, self.seats as u32, self.events)?;
+        solve_of(alloc, system, lo.values.as_slice(), hi.values.as_slice())
     }
 }
 

@@ -8,7 +8,7 @@ use Rattle.book_outer.specs.Files.{FileEntry, content}
 use Rattle.book_outer.specs.Folder.{missed_after}
 use Rattle.book_outer.specs.State.{FolderState}
 use Rattle.book_files.specs.declared.records.FileKind.{FileKind}
-use Rattle.book_files.specs.declared.records.FileKind.TheVariants.{Aux, Nodes, Nets, Wts, Pl, Scl}
+use Rattle.book_files.specs.declared.records.FileKind.TheVariants.{Aux, Nodes, Nets, Wts, Pl, Scl, Schedule}
 use Rattle.book_files.specs.Entries.{AuxEntry}
 use Rattle.book_files.specs.Grammar.{IsReading}
 use Rattle.book_files.specs.AuxRules.{aux_grammar}
@@ -22,21 +22,21 @@ use Rattle.proud_top.specs.Accepted.{IsAccepted, IsNextFile, IsFaultOf, HasBegun
 use Rattle.proud_top.specs.Flow.{reads_design}
 use Rattle.proud_top.specs.Statuses.{HasReadUpTo, IsUntouched}
 use Rattle.proud_top.specs.Forms.Inputs.{IsSoundText, Holds, HoldsWeights}
-use Rattle.proud_top.specs.Forms.Stops.{StopsReading, Gathers}
+use Rattle.proud_top.specs.Forms.Stops.{StopsReading, Gathers, IsOfSource}
 use Rattle.proud_top.specs.Forms.Gathering.{BeginsOne, Loads, Looks, Began, AreAccepted, HasReadBelow, AreNames, IsNext, IsText, Steps, StepsWeights}
 use Rattle.proud_top.proofs.Once.{rank_once, one_text}
 
 -- what holds where the files are known
-known : {X : Type 0} {Q : X → Type 0} (o : Option X) → ((x : X) → o ≡ Some x → Q x) → IfSome o Q
+pub known : {X : Type 0} {Q : X → Type 0} (o : Option X) → ((x : X) → o ≡ Some x → Q x) → IfSome o Q
 known None f = tt
 known (Some x) f = f x refl
 
-get : {X : Type 0} (P : X → Type 0) (o : Option X) (x : X) → o ≡ Some x → IfSome o P → P x
+pub get : {X : Type 0} (P : X → Type 0) (o : Option X) (x : X) → o ≡ Some x → IfSome o P → P x
 get {X = X} P o x e h =
     let Q : Option X → Type 0 = λ y. IfSome y P in
     subst Q e h
 
-untouched_more : (old now new : FolderState) → IsUntouched old now → IsUntouched now new → IsUntouched old new
+pub untouched_more : (old now new : FolderState) → IsUntouched old now → IsUntouched now new → IsUntouched old new
 untouched_more old now new h k = record { files = k.files ∙ h.files; write_faults = k.write_faults ∙ h.write_faults }
 
 grow : (most b m n k : ℕ) → m ≡ min (b + k) most → n ≡ min (m + 1) most → n ≡ min (b + suc k) most
@@ -49,10 +49,10 @@ begun_more : (old now new : FolderState) (m : ℕ) → Began old now m → new.b
 begun_more old now new zero h e = first (2 ^ 64 - 1) old.begun now.begun new.begun h e
 begun_more old now new (suc n) h e = grow (2 ^ 64 - 1) old.begun now.begun new.begun (suc n) h e
 
-there_missed : (files : List FileEntry) (name text : List ℕ) (before : ℕ) → content files name ≡ Some text → missed_after (Some files) name before ≡ before
+pub there_missed : (files : List FileEntry) (name text : List ℕ) (before : ℕ) → content files name ≡ Some text → missed_after (Some files) name before ≡ before
 there_missed files name text before e = rw e refl
 
-found_missed : (files : List FileEntry) (name : List ℕ) (before : ℕ) → IsSome (content files name) → missed_after (Some files) name before ≡ before
+pub found_missed : (files : List FileEntry) (name : List ℕ) (before : ℕ) → IsSome (content files name) → missed_after (Some files) name before ≡ before
 found_missed files name before e = rw e refl
 
 -- the next file, where the files are known
@@ -98,6 +98,16 @@ text_there : (old now new : FolderState) (word : List ℕ) (names : AuxEntry) (k
     → IfSome now.files (λ files. content files name ≡ Some text) → IfSome old.files (λ files. content files name ≡ Some text)
 text_there old now new word names kind name text m n there = known old.files (λ files e. get _ now.files files (n.below.untouched.files ∙ e) there)
 
+-- the next file of a source is no schedule
+file_of_source : (word : List ℕ) (names : AuxEntry) (kind : FileKind) (name : List ℕ) → name_of word names kind ≡ Some name → IsOfSource kind
+file_of_source word names Aux name is = lit< tt
+file_of_source word names Nodes name is = lit< tt
+file_of_source word names Nets name is = lit< tt
+file_of_source word names Wts name is = lit< tt
+file_of_source word names Pl name is = lit< tt
+file_of_source word names Scl name is = lit< tt
+file_of_source word names Schedule name is = absurd (let x : ⊥ = cc in x)
+
 -- the load of the next file stopped
 pub load_stops : (kind : FileKind) (name : List ℕ) (old now new : FolderState) (word : List ℕ) (names : AuxEntry) (m : ℕ) (stop : Stop)
     → IsNext old now word names kind name m → Loads kind name now new (Err stop) → StopsReading old new word stop
@@ -119,6 +129,7 @@ load_stops kind name old now new word names m (Refused refusal) n h =
         reads = h.3 ∙ n.below.read_faults;
       },
       record { node = refl; point = refl },
+      file_of_source word names kind name n.named,
     ) where
       long : (o : Option (List FileEntry)) → old.files ≡ o → reads_design o word (Err (TooLong kind))
       long None e = tt
@@ -136,6 +147,7 @@ load_stops kind name old now new word names m (ReadFault other) n h =
         begun = begun_more old now new m n.below.begun h.0.begun;
         present = λ there. missed_found old now new files name e (n.below.untouched.files ∙ e) h.0.missed n.below.missed there;
       }),
+      file_of_source word names kind name n.named,
     )
 load_stops kind name old now new word names m Memory n h = (untouched_more old now new n.below.untouched h.0.untouched, h.1 ∙ n.below.read_faults)
 
@@ -149,6 +161,7 @@ look_stops kind name text bytes old now new word names m (Refused refusal) same 
       bad old.files refl,
       read_up_to old now new word names kind name bytes.items m n h.0 h.1 h.3,
       record { node = refl; point = refl },
+      file_of_source word names kind name n.named,
     ) where
       bad : (o : Option (List FileEntry)) → old.files ≡ o → reads_design o word (Err (Text kind fault))
       bad None e = tt

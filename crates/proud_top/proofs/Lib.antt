@@ -13,3 +13,4 @@ mod Taking
 mod Naming
 mod Points
 mod Saying
+mod Scheduling

@@ -4,7 +4,7 @@ use Rattle.std.specs.Prelude.{Option, Some, None, option_map}
 use Rattle.std.proofs.lemmas.Bool.{cases_order}
 use Rattle.book_outer.specs.Files.{FileEntry, content}
 use Rattle.book_files.specs.declared.records.FileKind.{FileKind}
-use Rattle.book_files.specs.declared.records.FileKind.TheVariants.{Aux, Nodes, Nets, Wts, Pl, Scl}
+use Rattle.book_files.specs.declared.records.FileKind.TheVariants.{Aux, Nodes, Nets, Wts, Pl, Scl, Schedule}
 use Rattle.book_files.specs.declared.fault.TextFault.{TextFault}
 use Rattle.book_files.specs.Entries.{AuxEntry, NodeEntry, NetEntry, WeightEntry, PlaceEntry, RowEntry}
 use Rattle.book_files.specs.Grammar.{Grammar, IsReading, HasOneAnswer}
@@ -14,6 +14,7 @@ use Rattle.book_files.specs.NetRules.{nets_grammar}
 use Rattle.book_files.specs.WeightRules.{weights_grammar}
 use Rattle.book_files.specs.PlaceRules.{places_grammar}
 use Rattle.book_files.specs.RowRules.{rows_grammar}
+use Rattle.book_files.specs.ScheduleRules.{schedule_grammar}
 use Rattle.book_files.specs.declared.loading.TheConstants.{MOST_BYTES}
 use Rattle.book_design.specs.Records.{Records}
 use Rattle.book_design.specs.Values.{DesignValue}
@@ -37,6 +38,7 @@ pub record OneAnswer : Type 0 where
   pub wts : (text : List ℕ) → HasOneAnswer weights_grammar text
   pub pl : (text : List ℕ) → HasOneAnswer places_grammar text
   pub scl : (text : List ℕ) → HasOneAnswer rows_grammar text
+  pub schedule : (text : List ℕ) → HasOneAnswer schedule_grammar text
   pub join : (files : Records) → HasOneJoin files
   pub network : (design : DesignValue) → HasOneNetwork design
   pub levels : (network : NetworkValue) (count : ℕ) (a b : List Level) → IsLevels network count a → IsLevels network count b → a ≡ b
@@ -62,6 +64,7 @@ clean_text one Nets text read fault bad = (one.nets text).not_both read.0 fault 
 clean_text one Wts text read fault bad = (one.wts text).not_both read.0 fault read.1 bad
 clean_text one Pl text read fault bad = (one.pl text).not_both read.0 fault read.1 bad
 clean_text one Scl text read fault bad = (one.scl text).not_both read.0 fault read.1 bad
+clean_text one Schedule text read fault bad = (one.schedule text).not_both read.0 fault read.1 bad
 
 -- the file is too long or has a fault
 pub record IsUnclean (files : List FileEntry) (name : List ℕ) (kind : FileKind) : Type 0 where
@@ -69,7 +72,7 @@ pub record IsUnclean (files : List FileEntry) (name : List ℕ) (kind : FileKind
   pub there : content files name ≡ Some text
   pub unclean : length text ≤ MOST_BYTES → (fault : TextFault) × IsFaultOf kind text fault
 
-not_both : OneAnswer → (files : List FileEntry) (name : List ℕ) (kind : FileKind) → IsAccepted files name kind → IsUnclean files name kind → ⊥
+pub not_both : OneAnswer → (files : List FileEntry) (name : List ℕ) (kind : FileKind) → IsAccepted files name kind → IsUnclean files name kind → ⊥
 not_both one files name kind h k =
     let same : h.text ≡ k.text = one_text _ _ (sym h.there ∙ k.there) in
     let S : List ℕ → Type 0 = λ text. length text ≤ MOST_BYTES in
@@ -110,6 +113,7 @@ accepted_one files word names records Scl name a e =
     let h = a.scl in
     let P : List ℕ → Type 0 = λ n. IsAccepted files n Scl in
     subst P (one_text _ _ e) (record { text = h.text; there = h.there; short = h.short; readable = (records.rows, h.reading) })
+accepted_one files word names records Schedule name a e = absurd (let x : ⊥ = cc in x)
 
 -- the name of a file that is next, by any reading of the aux file
 behind_aux : OneAnswer → (files : List FileEntry) (word : List ℕ) (kind : FileKind) (names : AuxEntry) (name : List ℕ) (nth : ℕ)
@@ -127,6 +131,7 @@ same_name one files word Nets names name nth h aux = behind_aux one files word N
 same_name one files word Wts names name nth h aux = behind_aux one files word Wts names name nth (lit< tt) h aux
 same_name one files word Pl names name nth h aux = behind_aux one files word Pl names name nth (lit< tt) h aux
 same_name one files word Scl names name nth h aux = behind_aux one files word Scl names name nth (lit< tt) h aux
+same_name one files word Schedule names name nth h aux = behind_aux one files word Schedule names name nth (lit< tt) h aux
 
 -- two files of one kind that are next have one name
 behind_once : OneAnswer → (files : List FileEntry) (word : List ℕ) (kind : FileKind) (a b : List ℕ) (p q : ℕ)
@@ -142,6 +147,7 @@ next_once one files word Nets a b p q h k = behind_once one files word Nets a b 
 next_once one files word Wts a b p q h k = behind_once one files word Wts a b p q (lit< tt) h k
 next_once one files word Pl a b p q h k = behind_once one files word Pl a b p q (lit< tt) h k
 next_once one files word Scl a b p q h k = behind_once one files word Scl a b p q (lit< tt) h k
+next_once one files word Schedule a b p q h k = behind_once one files word Schedule a b p q (lit< tt) h k
 
 -- the file of the kind is the first that isn't accepted
 pub record StopsAt (files : List FileEntry) (word : List ℕ) (kind : FileKind) : Type 0 where
@@ -181,7 +187,8 @@ kind_of (suc zero) = Nodes
 kind_of (suc (suc zero)) = Nets
 kind_of (suc (suc (suc zero))) = Wts
 kind_of (suc (suc (suc (suc zero)))) = Pl
-kind_of (suc (suc (suc (suc (suc n))))) = Scl
+kind_of (suc (suc (suc (suc (suc zero))))) = Scl
+kind_of (suc (suc (suc (suc (suc (suc n)))))) = Schedule
 
 kind_of_rank : (kind : FileKind) → kind_of (rank kind) ≡ kind
 unfolding kind_of
@@ -191,6 +198,7 @@ kind_of_rank Nets = refl
 kind_of_rank Wts = refl
 kind_of_rank Pl = refl
 kind_of_rank Scl = refl
+kind_of_rank Schedule = refl
 
 pub rank_once : (a b : FileKind) → rank a ≡ rank b → a ≡ b
 rank_once a b same = sym (kind_of_rank a) ∙ ap kind_of same ∙ kind_of_rank b
@@ -248,3 +256,4 @@ fault_once one Nets text a b h k = (one.nets text).one_fault a b h k
 fault_once one Wts text a b h k = (one.wts text).one_fault a b h k
 fault_once one Pl text a b h k = (one.pl text).one_fault a b h k
 fault_once one Scl text a b h k = (one.scl text).one_fault a b h k
+fault_once one Schedule text a b h k = (one.schedule text).one_fault a b h k

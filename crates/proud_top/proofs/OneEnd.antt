@@ -29,14 +29,16 @@ use Rattle.wire_report.specs.declared.corner.Corner.{Corner}
 use Rattle.wire_report.specs.Report.{report_of}
 use Rattle.proud_top.specs.declared.status.Refusal.{Refusal}
 use Rattle.proud_top.specs.declared.status.Refusal.TheVariants.{TooLong, Text, Design, Net, Unanchored, NoRoom}
-use Rattle.proud_top.specs.Accepted.{Accepts, IsFaultOf, IsTooLong, IsBadText}
+use Rattle.book_files.specs.declared.records.FileKind.TheVariants.{Schedule}
+use Rattle.book_files.specs.Loading.{HasLongText}
+use Rattle.proud_top.specs.Accepted.{Accepts, IsAccepted, IsFaultOf, IsTooLong, IsBadText, HasBadText}
 use Rattle.proud_words.specs.Request.{SourceValue, of_design, of_grid}
 use Rattle.proud_top.specs.Texts.{grid_texts}
 use Rattle.proud_top.specs.Wishes.{AreWishes, AreCells, wish_in}
-use Rattle.proud_top.specs.Flow.{PlacedValue, ◌then◌, reads_known, reads_design, reads, joins, wires, reaches, solves, spaces, wishes, legalises, stands, writes, measures, reports, places_corners, places_levels, places_records, places}
+use Rattle.proud_top.specs.Flow.{PlacedValue, ◌then◌, reads_known, reads_design, reads, reads_events, schedules, joins, wires, reaches, solves, spaces, wishes, legalises, stands, writes, measures, reports, places_corners, places_levels, places_records, places_scheduled, places}
 use Rattle.proud_top.proofs.Nodes.{node_there}
 use Rattle.proud_top.proofs.OneTexts.{one_texts}
-use Rattle.proud_top.proofs.Once.{OneAnswer, one_text, long_stops, bad_stops, next_once, stops_once, accepts_all, accepts_once, fault_once}
+use Rattle.proud_top.proofs.Once.{OneAnswer, one_text, not_both, long_stops, bad_stops, next_once, stops_once, accepts_all, accepts_once, fault_once}
 
 -- a step has one answer at most
 abbrev pub HasOne : {B : Type 0} → (Result B Refusal → Type 0) → Type 0
@@ -164,6 +166,59 @@ pub one_reads : OneAnswer → (files : List FileEntry) (source : SourceValue) (a
 one_reads one files (of_design word) a b h k = one_design one files word a b h k
 one_reads one files (of_grid grid) a b h k = one_texts one (grid_texts grid) a b h k
 
+-- why a schedule isn't read, by its kind
+data UnreadEvents (files : List FileEntry) (name : List ℕ) (refusal : Refusal) : Type 0 where
+  long : refusal ≡ TooLong Schedule → HasLongText files name → UnreadEvents files name refusal
+  bad : (fault : TextFault) → refusal ≡ Text Schedule fault → HasBadText files name Schedule fault → UnreadEvents files name refusal
+
+open_events : (files : List FileEntry) (name : List ℕ) (refusal : Refusal) → reads_events files name (Err refusal) → UnreadEvents files name refusal
+open_events files name (TooLong kind) h = long (ap TooLong h.0) h.1
+open_events files name (Text kind fault) h = bad fault (ap (λ (k : FileKind). Text k fault) h.0) h.1
+open_events files name (Design fault) h = absurd h
+open_events files name (Net fault) h = absurd h
+open_events files name (Unanchored point) h = absurd h
+open_events files name (NoRoom cell sites largest) h = absurd h
+
+long_or_bad_events : (files : List FileEntry) (name : List ℕ) (fault : TextFault) → HasLongText files name → HasBadText files name Schedule fault → ⊥
+long_or_bad_events files name fault h k =
+    let same : h.text ≡ k.text = one_text _ _ (sym h.there ∙ k.there) in
+    let L : List ℕ → Type 0 = λ text. MOST_BYTES < length text in
+    clash MOST_BYTES (length k.text) (subst L same h.long) k.short where
+      clash : (limit n : ℕ) → limit < n → n ≤ limit → ⊥
+      clash limit n a b = omega arith
+
+one_bad_events : OneAnswer → (files : List FileEntry) (name : List ℕ) (f g : TextFault) → HasBadText files name Schedule f → HasBadText files name Schedule g → f ≡ g
+one_bad_events one files name f g h k =
+    let same : h.text ≡ k.text = one_text _ _ (sym h.there ∙ k.there) in
+    let F : List ℕ → Type 0 = λ text. IsFaultOf Schedule text f in
+    fault_once one Schedule k.text f g (subst F same h.faulty) k.faulty
+
+one_unread_events : OneAnswer → (files : List FileEntry) (name : List ℕ) (a b : Refusal) → UnreadEvents files name a → UnreadEvents files name b → a ≡ b
+one_unread_events one files name a b (long e l) (long d m) = e ∙ sym d
+one_unread_events one files name a b (bad f e l) (bad g d m) = e ∙ ap (λ (x : TextFault). Text Schedule x) (one_bad_events one files name f g l m) ∙ sym d
+one_unread_events one files name a b (long e l) (bad g d m) = absurd (long_or_bad_events files name g l m)
+one_unread_events one files name a b (bad f e l) (long d m) = absurd (long_or_bad_events files name f m l)
+
+accepted_or_unread : OneAnswer → (files : List FileEntry) (name : List ℕ) (refusal : Refusal) → IsAccepted files name Schedule → UnreadEvents files name refusal → ⊥
+accepted_or_unread one files name refusal h (long e l) =
+    not_both one files name Schedule h (record { text = l.text; there = l.there; unclean = λ short. absurd (too_long MOST_BYTES (length l.text) l.long short) }) where
+      too_long : (limit n : ℕ) → limit < n → n ≤ limit → ⊥
+      too_long limit n a b = omega arith
+accepted_or_unread one files name refusal h (bad fault e b) = not_both one files name Schedule h (record { text = b.text; there = b.there; unclean = λ short. (fault, b.faulty) })
+
+-- a schedule is accepted, or refused in one way
+one_events : OneAnswer → (files : List FileEntry) (name : List ℕ) (a b : Result (Unit {0}) Refusal) → reads_events files name a → reads_events files name b → a ≡ b
+one_events one files name (Ok x) (Ok y) h k = refl
+one_events one files name (Ok x) (Err q) h k = absurd (accepted_or_unread one files name q h (open_events files name q k))
+one_events one files name (Err r) (Ok y) h k = absurd (accepted_or_unread one files name r k (open_events files name r h))
+one_events one files name (Err r) (Err q) h k = ap Err (one_unread_events one files name r q (open_events files name r h) (open_events files name q k))
+
+pub one_schedules : OneAnswer → (files : List FileEntry) (schedule : Option (List ℕ)) (a b : Result (Unit {0}) Refusal) → schedules (Some files) schedule a → schedules (Some files) schedule b → a ≡ b
+one_schedules one files None (Ok x) (Ok y) h k = refl
+one_schedules one files None (Ok x) (Err q) h k = absurd k
+one_schedules one files None (Err r) b h k = absurd h
+one_schedules one files (Some name) a b h k = one_events one files name a b h k
+
 pub one_joins : OneAnswer → (records : Records) (a b : Result DesignValue Refusal) → joins records a → joins records b → a ≡ b
 one_joins one records (Ok x) (Ok y) h k = ap Ok ((one.join records).one_design x y h k)
 one_joins one records (Ok x) (Err q) h (g, d, k) = absurd ((one.join records).not_both x g h k)
@@ -267,9 +322,14 @@ from_network count design network = reaches network then λ done. solves network
 abbrev from_design : ℕ → DesignValue → Result PlacedValue Refusal → Type 0
 from_design count design = wires design then λ network. reaches network then λ done. solves network count then λ levels. places_levels count design levels
 
-pub one_end : OneAnswer → (files : List FileEntry) (source : SourceValue) (count : ℕ) (a b : Result PlacedValue Refusal) → places (Some files) source count a → places (Some files) source count b → a ≡ b
-one_end one files source count =
-    one_then (reads (Some files) source) (places_records count) (one_reads one files source) (λ records.
+abbrev from_scheduled : ℕ → Records → Unit {0} → Result PlacedValue Refusal → Type 0
+from_scheduled count records done = places_records count records
+
+pub one_end : OneAnswer → (files : List FileEntry) (source : SourceValue) (schedule : Option (List ℕ)) (count : ℕ) (a b : Result PlacedValue Refusal) → places (Some files) source schedule count a
+    → places (Some files) source schedule count b → a ≡ b
+one_end one files source schedule count =
+    one_then (reads (Some files) source) (places_scheduled (Some files) schedule count) (one_reads one files source) (λ records.
+    one_then (schedules (Some files) schedule) (from_scheduled count records) (one_schedules one files schedule) (λ done.
     one_then (joins records) (from_design count) (one_joins one records) (λ design.
     one_then (wires design) (from_network count design) (one_wires one design) (λ network.
     one_then (reaches network) (λ done. from_reaches count design network) (one_reaches network) (λ done.
@@ -279,7 +339,7 @@ one_end one files source count =
     one_then (legalises rows cells) (places_corners count design levels rows) (one_legalises one rows cells) (λ sites.
     one_then (stands design rows sites) (from_corners count design levels) (one_stands design rows sites) (λ corners.
     one_then (writes design corners) (from_file count design levels corners) (one_writes design corners) (λ file.
-    one_then (measures design corners) (reports design count levels file) (one_measures design corners) (one_reports one design count levels file)))))))))))
+    one_then (measures design corners) (reports design count levels file) (one_measures design corners) (one_reports one design count levels file))))))))))))
 
 -- nothing is refused behind the places
 pub never_behind : (count : ℕ) (design : DesignValue) (levels : List Level) (rows : SegmentsValue) (sites : List Place) (refusal : Refusal) → places_corners count design levels rows sites (Err refusal) → ⊥
@@ -303,13 +363,14 @@ never_stuck one count design levels refusal room flow =
       by_wishes (inr (cells, are, rest)) = by_room cells are rest
 
 -- what is placed is refused for nothing
-pub never_refused : OneAnswer → (files : List FileEntry) (source : SourceValue) (count : ℕ) (records : Records) (design : DesignValue) (network : NetworkValue) (refusal : Refusal)
-    → reads (Some files) source (Ok records) → joins records (Ok design) → wires design (Ok network) → ((p : ℕ) → p < length network.points → HasChain (joints_of network) p)
+pub never_refused : OneAnswer → (files : List FileEntry) (source : SourceValue) (schedule : Option (List ℕ)) (count : ℕ) (records : Records) (design : DesignValue) (network : NetworkValue) (refusal : Refusal)
+    → reads (Some files) source (Ok records) → schedules (Some files) schedule (Ok tt) → joins records (Ok design) → wires design (Ok network) → ((p : ℕ) → p < length network.points → HasChain (joints_of network) p)
     → ((levels : List Level) (cells : CellsValue) → IsLevels network count levels → AreCells design (level_at levels count) cells → (sites : List Place) × IsLegalised (segments_of design) cells sites)
-    → places (Some files) source count (Err refusal) → ⊥
-never_refused one files source count records design network refusal accepted joined wired chains room flow =
-    let behind_files = through (reads (Some files) source) (places_records count) records (Err refusal) (one_reads one files source) accepted flow in
-    let behind_join = through (joins records) (from_design count) design (Err refusal) (one_joins one records) joined behind_files in
+    → places (Some files) source schedule count (Err refusal) → ⊥
+never_refused one files source schedule count records design network refusal accepted scheduled joined wired chains room flow =
+    let behind_files = through (reads (Some files) source) (places_scheduled (Some files) schedule count) records (Err refusal) (one_reads one files source) accepted flow in
+    let behind_schedule = through (schedules (Some files) schedule) (from_scheduled count records) tt (Err refusal) (one_schedules one files schedule) scheduled behind_files in
+    let behind_join = through (joins records) (from_design count) design (Err refusal) (one_joins one records) joined behind_schedule in
     let behind_wires = through (wires design) (from_network count design) network (Err refusal) (one_wires one design) wired behind_join in
     none (through (reaches network) (λ done. from_reaches count design network) tt (Err refusal) (one_reaches network) chains behind_wires) where
       none : from_reaches count design network (Err refusal) → ⊥

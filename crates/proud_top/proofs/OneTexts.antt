@@ -3,7 +3,7 @@ use Rattle.std.proofs.Common.{◌≡◌, ◌⊎◌, ◌<◌, ◌≤◌, ℕ, Lis
 use Rattle.std.specs.Prelude.{Option, Some, None, Result, Ok, Err}
 use Rattle.std.proofs.lemmas.Bool.{cases_order}
 use Rattle.book_files.specs.declared.records.FileKind.{FileKind}
-use Rattle.book_files.specs.declared.records.FileKind.TheVariants.{Aux, Nodes, Nets, Wts, Pl, Scl}
+use Rattle.book_files.specs.declared.records.FileKind.TheVariants.{Aux, Nodes, Nets, Wts, Pl, Scl, Schedule}
 use Rattle.book_files.specs.declared.fault.TextFault.{TextFault}
 use Rattle.book_files.specs.Entries.{WeightEntry}
 use Rattle.book_files.specs.declared.loading.TheConstants.{MOST_BYTES}
@@ -39,6 +39,7 @@ readable_text texts records Pl text h e =
 readable_text texts records Scl text h e =
     let P : List ℕ → Type 0 = λ t. IsReadable Scl t in
     subst P (one_text _ _ e) (records.rows, h.rows)
+readable_text texts records Schedule text h e = absurd (let x : ⊥ = cc in x)
 
 -- the text of the kind is the first that isn't accepted
 record StopsAt (texts : Texts) (kind : FileKind) : Type 0 where

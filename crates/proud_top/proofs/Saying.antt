@@ -6,7 +6,7 @@ use Rattle.book_outer.specs.Cause.{Rose}
 use Rattle.book_outer.specs.Files.{FileEntry, with_content}
 use Rattle.book_outer.specs.State.{FolderState, SinkState}
 use Rattle.book_files.specs.declared.records.FileKind.{FileKind}
-use Rattle.book_files.specs.declared.records.FileKind.TheVariants.{Scl}
+use Rattle.book_files.specs.declared.records.FileKind.TheVariants.{Scl, Schedule}
 use Rattle.book_files.specs.Entries.{WeightEntry}
 use Rattle.book_design.specs.declared.fault.DesignFault.{DesignFault}
 use Rattle.book_design.specs.declared.fault.DesignFault.TheVariants.{DuplicateName, UnknownName, NoPosition, NoRows, MixedRows, RowsOverlap, TallCell, Limit}
@@ -33,12 +33,13 @@ use Rattle.proud_top.specs.Texts.{Texts, AreWeights, AreRecords, AreShort}
 use Rattle.proud_top.specs.Accepted.{ReadsWeights, Accepts, IsLast}
 use Rattle.proud_top.specs.Wishes.{AreCells}
 use Rattle.proud_top.specs.Placement.{IsLegalText}
-use Rattle.proud_top.specs.Flow.{PlacedValue, ◌then◌, places, reads_design, reads, legalises, places_corners, places_levels, last_kind}
+use Rattle.proud_top.specs.Flow.{PlacedValue, ◌then◌, places, reads_design, reads, schedules, legalises, places_corners, places_levels, last_kind}
 use Rattle.proud_top.specs.Named.{node_of_fault, point_of_fault}
-use Rattle.proud_top.specs.Statuses.{status_of, Says, HasFile, HasFront, GotFront, HasReadUpTo, ReadsNothing, HasRead, HasNoRequest, IsPlacedAs, IsCause, IsDue, IsDone, IsUsage, IsRefused, IsReadFault, IsWriteFault, IsUnwritten, not_made, not_put, not_reported, IsPutUpTo, none_put, file_put, report_put, IsCutOff, cut_before, cut_in_line, cut_in_placement, IsMemory, IsPlaceable, AreReadsCalm, AreWritesCalm, ArePutsCalm, IsUntouched}
+use Rattle.proud_top.specs.Statuses.{status_of, Says, HasFile, HasFront, GotFront, HasReadUpTo, ReadsNothing, HasRead, HasReadAll, HasReadTo, HasNoRequest, IsPlacedAs, IsCause, IsDue, IsDone, IsUsage, IsRefused, IsReadFault, IsWriteFault, IsUnwritten, not_made, not_put, not_reported, IsPutUpTo, none_put, file_put, report_put, IsCutOff, cut_before, cut_in_line, cut_in_placement, IsMemory, IsPlaceable, AreReadsCalm, AreWritesCalm, ArePutsCalm, IsUntouched}
 use Rattle.proud_top.specs.Forms.Saying.{Puts, Delivers}
 use Rattle.proud_top.specs.Forms.Inputs.{HoldsWeights, HasTexts, places_texts}
-use Rattle.proud_top.specs.Forms.Sources.{StopsTaking, AreTextsOf, Takes}
+use Rattle.proud_top.specs.declared.source.Taken.{Taken}
+use Rattle.proud_top.specs.Forms.Sources.{IsRefusedBy, StopsTaking, AreTextsOf, Takes}
 use Rattle.proud_top.specs.Forms.Stops.{placed_value, Places, HasNode, HasPoint, Covers, CoversStop, IsLineOf, Refuses}
 use Rattle.proud_top.proofs.Once.{OneAnswer}
 use Rattle.proud_top.proofs.OneEnd.{one_end, never_refused, never_behind}
@@ -91,6 +92,10 @@ has_read_kept : (kind : FileKind) (source : SourceValue) (f g f' : FolderState) 
 has_read_kept kind (of_design word) f g f' h k = read_kept kind word f g f' h k
 has_read_kept kind (of_grid grid) f g f' h k = nothing_read f g f' h k
 
+all_read_kept : (source : SourceValue) (schedule : Option (List ℕ)) (f g f' : FolderState) → HasReadAll source schedule f g → ReadsNothing g f' → HasReadAll source schedule f f'
+all_read_kept source None f g f' h k = has_read_kept Scl source f g f' h k
+all_read_kept source (Some name) f g f' (mid, h, more) k = (mid, h, record { begun = k.begun ∙ more.begun; missed = k.missed ∙ more.missed; read_faults = k.read_faults ∙ more.read_faults })
+
 -- what holds of the files since the texts were taken holds since the start
 file_since : (name text : List ℕ) (f g f' : FolderState) → IsUntouched f g → HasFile name text g f' → HasFile name text f f'
 file_since name text f g f' kept h = h ∙ ap (λ (o : Option (List FileEntry)). option_map (λ files. with_content files name text) o) kept.files
@@ -116,8 +121,8 @@ up_to_since name placed f g f' s s' kept (report_put file got) = report_put (fil
 -- as what the request is placed, before it is delivered
 pub record IsPlacedAt (words : List (List ℕ)) (request : RequestValue) (old new : FolderState) (placed : PlacedValue) : Type 0 where
   pub asked : IsRequest words request
-  pub flow : places old.files request.source request.levels (Ok placed)
-  pub read : HasRead Scl request.source old new
+  pub flow : places old.files request.source request.schedule request.levels (Ok placed)
+  pub read : HasReadAll request.source request.schedule old new
   pub legal : IsLegalText (λ records. reads old.files request.source (Ok records)) placed.file
 
 -- What was placed, once delivered, says what the status says.
@@ -127,7 +132,7 @@ says_delivered words request f g f' s s' placed result h kept none delivered = b
   by_status : (x : Status) → Delivers request.out placed g f' s s' x → Says x words f f' s s'
   by_status Done d = record {
     placed = placed;
-    due = record { request = request; asked = h.asked; flow = h.flow; read = has_read_kept Scl request.source f g f' h.read none; legal = h.legal };
+    due = record { request = request; asked = h.asked; flow = h.flow; read = all_read_kept request.source request.schedule f g f' h.read none; legal = h.legal };
     file = file_since request.out placed.file f g f' kept d.0;
     got = d.2;
     writes = d.1 ∙ kept.write_faults;
@@ -135,12 +140,12 @@ says_delivered words request f g f' s s' placed result h kept none delivered = b
   }
   by_status WriteFault d = record {
     placed = placed;
-    due = record { request = request; asked = h.asked; flow = h.flow; read = has_read_kept Scl request.source f g f' h.read none; legal = h.legal };
+    due = record { request = request; asked = h.asked; flow = h.flow; read = all_read_kept request.source request.schedule f g f' h.read none; legal = h.legal };
     unwritten = unwritten_since request.out placed f g f' s s' kept d;
   }
   by_status Memory d = record {
     cut_off = cut_in_placement placed
-        (record { request = request; asked = h.asked; flow = h.flow; read = has_read_kept Scl request.source f g f' h.read none; legal = h.legal })
+        (record { request = request; asked = h.asked; flow = h.flow; read = all_read_kept request.source request.schedule f g f' h.read none; legal = h.legal })
         (up_to_since request.out placed f g f' s s' kept d.0);
     writes = d.1 ∙ kept.write_faults;
     puts = d.2;
@@ -172,17 +177,23 @@ design_reads : (o : Option (List FileEntry)) (word : List ℕ) (texts : Texts) (
 design_reads None word texts records h k = tt
 design_reads (Some files) word texts records h k = (h.names, accepts_texts files word texts records h k)
 
-source_reads : (o : Option (List FileEntry)) (source : SourceValue) (texts : Texts) (records : Records) → AreTextsOf o source texts → AreRecords texts records → reads o source (Ok records)
+pub source_reads : (o : Option (List FileEntry)) (source : SourceValue) (texts : Texts) (records : Records) → AreTextsOf o source texts → AreRecords texts records → reads o source (Ok records)
 source_reads o (of_design word) texts records h k = design_reads o word texts records h k
 source_reads o (of_grid grid) texts records h k =
     let P : Texts → Type 0 = λ t. AreShort t × AreRecords t records in
     subst P h.0 (h.1, k)
 
 -- the flow from the texts on is that from the source on
-flow_texts : (o : Option (List FileEntry)) (source : SourceValue) (count : ℕ) (texts : Texts) (end : Result PlacedValue Refusal) → AreTextsOf o source texts → places_texts count texts end → places o source count end
-flow_texts o source count texts (Ok placed) h flow = (flow.0, source_reads o source texts flow.0 h flow.1, flow.2)
-flow_texts o source count texts (Err refusal) h (inl none) = absurd none
-flow_texts o source count texts (Err refusal) h (inr (records, read, rest)) = inr (records, source_reads o source texts records h read, rest)
+flow_texts : (o : Option (List FileEntry)) (source : SourceValue) (schedule : Option (List ℕ)) (count : ℕ) (texts : Texts) (end : Result PlacedValue Refusal) → AreTextsOf o source texts → schedules o schedule (Ok tt)
+    → places_texts count texts end → places o source schedule count end
+flow_texts o source schedule count texts (Ok placed) h s flow = (flow.0, source_reads o source texts flow.0 h flow.1, tt, s, flow.2)
+flow_texts o source schedule count texts (Err refusal) h s (inl none) = absurd none
+flow_texts o source schedule count texts (Err refusal) h s (inr (records, read, rest)) = inr (records, source_reads o source texts records h read, inr (tt, s, rest))
+
+-- and where the source or the schedule is refused, so is the flow
+flow_refused : (o : Option (List FileEntry)) (source : SourceValue) (schedule : Option (List ℕ)) (count : ℕ) (refusal : Refusal) → IsRefusedBy o source schedule refusal → places o source schedule count (Err refusal)
+flow_refused o source schedule count refusal (inl read) = inl read
+flow_refused o source schedule count refusal (inr (records, read, scheduled)) = inr (records, read, inl scheduled)
 
 -- a refusal behind the texts comes when all files were begun, and names nothing that isn't theirs
 fault_covered : (texts : Texts) (records : Records) (fault : DesignFault) → AreRecords texts records → IsFirstFault records fault → IfSome (node_of_fault fault) (HasNode texts)
@@ -201,7 +212,7 @@ net_covered texts records design (NetTooWide number) read joined first = tt
 net_covered texts records design (TooManyEdges number) read joined first = tt
 
 record Late (texts : Texts) (refusal : Refusal) : Type 0 where
-  pub last : last_kind refusal ≡ Scl
+  pub last : last_kind refusal ≡ Schedule
   pub covered : Covers (Some texts) refusal
 
 late_as : (texts : Texts) (refusal other : Refusal) → refusal ≡ other → Late texts other → Late texts refusal
@@ -235,10 +246,10 @@ late count texts refusal (inr (records, read, inr (design, joined, inr (network,
 late count texts refusal (inr (records, read, inr (design, joined, inr (network, made, inr (done, chains, inl none))))) = absurd none
 late count texts refusal (inr (records, read, inr (design, joined, inr (network, made, inr (done, chains, inr (levels, is, rest)))))) = late_levels count texts refusal records design levels read joined rest
 
-pub covered_take : (f f' : FolderState) (source : SourceValue) (s : Stop) → StopsTaking f f' source s → CoversStop None s
-covered_take f f' source (stop.Refused refusal) h = h.3
-covered_take f f' source (stop.ReadFault kind) h = tt
-covered_take f f' source stop.Memory h = tt
+pub covered_take : (f f' : FolderState) (source : SourceValue) (schedule : Option (List ℕ)) (s : Stop) → StopsTaking f f' source schedule s → CoversStop None s
+covered_take f f' source schedule (stop.Refused refusal) h = h.3
+covered_take f f' source schedule (stop.ReadFault kind) h = tt
+covered_take f f' source schedule stop.Memory h = tt
 
 pub covered_place : (count : ℕ) (texts : Texts) (s : Stop) → Places count texts (Err s) → CoversStop (Some texts) s
 covered_place count texts (stop.Refused refusal) h = (late count texts refusal h).covered
@@ -246,44 +257,44 @@ covered_place count texts (stop.ReadFault kind) h = tt
 covered_place count texts stop.Memory h = tt
 
 -- what is due where the taking of the texts stopped
-pub due_take : (words : List (List ℕ)) (request : RequestValue) (f f' : FolderState) → IsRequest words request → (s : Stop) → StopsTaking f f' request.source s
+pub due_take : (words : List (List ℕ)) (request : RequestValue) (f f' : FolderState) → IsRequest words request → (s : Stop) → StopsTaking f f' request.source request.schedule s
     → (line : List ℕ) → IsLineOf None s line → (s ≡ stop.Memory → ⊥) → IsDue (status_of s) words f f' line
 due_take words request f f' asked (stop.Refused refusal) h line is other = record {
-  cause = record { request = request; asked = asked; flow = inl h.1 };
+  cause = record { request = request; asked = asked; flow = flow_refused f.files request.source request.schedule request.levels refusal h.1 };
   read = h.2;
   name = is.0;
   named = named_among refusal is.0 (λ records none. absurd none) is.1;
   line = is.2;
 }
-due_take words request f f' asked (stop.ReadFault kind) h line is other = record { request = request; word = h.2.0; asked = asked; design = h.2.1; rose = h.1; at = h.2.2; line = is }
+due_take words request f f' asked (stop.ReadFault kind) h line is other = record { request = request; asked = asked; rose = h.1; at = h.2; line = is }
 due_take words request f f' asked stop.Memory h line is other = absurd (other refl)
 
 -- and where what the texts make is refused
-pub due_place : (words : List (List ℕ)) (request : RequestValue) (f f' : FolderState) (texts : Texts) → IsRequest words request → Takes f f' request.source (Ok texts) → (s : Stop) → Places request.levels texts (Err s)
-    → (line : List ℕ) → IsLineOf (Some texts) s line → (s ≡ stop.Memory → ⊥) → IsDue (status_of s) words f f' line
-due_place words request f f' texts asked g (stop.Refused refusal) h line is other =
-    let R : FileKind → Type 0 = λ kind. HasRead kind request.source f f' in
+pub due_place : (words : List (List ℕ)) (request : RequestValue) (f f' : FolderState) (taken : Taken) → IsRequest words request → Takes f f' request.source request.schedule (Ok taken) → (s : Stop) → Places request.levels taken.inputs (Err s)
+    → (line : List ℕ) → IsLineOf (Some taken.inputs) s line → (s ≡ stop.Memory → ⊥) → IsDue (status_of s) words f f' line
+due_place words request f f' taken asked g (stop.Refused refusal) h line is other =
+    let R : FileKind → Type 0 = λ kind. HasReadTo kind request.source request.schedule f f' in
     record {
-      cause = record { request = request; asked = asked; flow = flow_texts f.files request.source request.levels texts (Err refusal) g.1 h };
-      read = subst R (sym (late request.levels texts refusal h).last) g.2;
+      cause = record { request = request; asked = asked; flow = flow_texts f.files request.source request.schedule request.levels taken.inputs (Err refusal) g.1 g.2 h };
+      read = subst R (sym (late request.levels taken.inputs refusal h).last) g.3;
       name = is.0;
-      named = named_among refusal is.0 (λ records read. source_reads f.files request.source texts records g.1 read) is.1;
+      named = named_among refusal is.0 (λ records read. source_reads f.files request.source taken.inputs records g.1 read) is.1;
       line = is.2;
     }
-due_place words request f f' texts asked g (stop.ReadFault kind) h line is other = absurd h
-due_place words request f f' texts asked g stop.Memory h line is other = absurd (other refl)
+due_place words request f f' taken asked g (stop.ReadFault kind) h line is other = absurd h
+due_place words request f f' taken asked g stop.Memory h line is other = absurd (other refl)
 
-pub placed_at : (words : List (List ℕ)) (request : RequestValue) (f f' : FolderState) (texts : Texts) (placed : Placed) → IsRequest words request → Takes f f' request.source (Ok texts) → Places request.levels texts (Ok placed)
+pub placed_at : (words : List (List ℕ)) (request : RequestValue) (f f' : FolderState) (taken : Taken) (placed : Placed) → IsRequest words request → Takes f f' request.source request.schedule (Ok taken) → Places request.levels taken.inputs (Ok placed)
     → IsPlacedAt words request f f' (placed_value placed)
-placed_at words request f f' texts placed asked g h = record {
+placed_at words request f f' taken placed asked g h = record {
   asked = asked;
-  flow = flow_texts f.files request.source request.levels texts (Ok (placed_value placed)) g.1 h.0;
-  read = g.2;
+  flow = flow_texts f.files request.source request.schedule request.levels taken.inputs (Ok (placed_value placed)) g.1 g.2 h.0;
+  read = g.3;
   legal = record {
     records = h.1.records;
     design = h.1.design;
     spots = h.1.spots;
-    read = source_reads f.files request.source texts h.1.records g.1 h.1.read;
+    read = source_reads f.files request.source taken.inputs h.1.records g.1 h.1.read;
     joined = h.1.joined;
     legal = h.1.legal;
     is_text = h.1.is_text;
@@ -291,10 +302,10 @@ placed_at words request f f' texts placed asked g h = record {
 }
 
 -- a folder is as it was where the taking of the texts stopped
-pub untouched_at : (f f' : FolderState) (source : SourceValue) (s : Stop) → StopsTaking f f' source s → IsUntouched f f'
-untouched_at f f' source (stop.Refused refusal) h = h.0
-untouched_at f f' source (stop.ReadFault kind) h = h.0
-untouched_at f f' source stop.Memory h = h.0
+pub untouched_at : (f f' : FolderState) (source : SourceValue) (schedule : Option (List ℕ)) (s : Stop) → StopsTaking f f' source schedule s → IsUntouched f f'
+untouched_at f f' source schedule (stop.Refused refusal) h = h.0
+untouched_at f f' source schedule (stop.ReadFault kind) h = h.0
+untouched_at f f' source schedule stop.Memory h = h.0
 
 -- what a stop says, once its line was put
 pub says_stop : (words : List (List ℕ)) (f f' : FolderState) (s s' : SinkState) (texts : Option Texts) (x : Stop) (result : Status) → IsUntouched f f'
@@ -312,10 +323,10 @@ refused_end refusal = Err refusal
 pub only_refused : OneAnswer → OneRequest → (files : List FileEntry) (words : List (List ℕ)) (f f' : FolderState) (s s' : SinkState) (refusal : Refusal) (status : Status)
     → f.files ≡ Some files → IsCause words (Some files) refusal → AreReadsCalm f f' → Says status words f f' s s' → (status ≡ Refused refusal) ⊎ (status ≡ Memory)
 only_refused one ask files words f f' s s' refusal status is cause calm said = by_status status said where
-  ended : (request : RequestValue) (end : Result PlacedValue Refusal) → IsRequest words request → places f.files request.source request.levels end → end ≡ Err refusal
+  ended : (request : RequestValue) (end : Result PlacedValue Refusal) → IsRequest words request → places f.files request.source request.schedule request.levels end → end ≡ Err refusal
   ended request end asked flow =
-      let P : Option (List FileEntry) → Type 0 = λ o. places o request.source request.levels end in
-      one_end one files request.source request.levels end (Err refusal) (subst P is flow) (same_flow ask words (Some files) cause.request request (Err refusal) cause.asked asked cause.flow)
+      let P : Option (List FileEntry) → Type 0 = λ o. places o request.source request.schedule request.levels end in
+      one_end one files request.source request.schedule request.levels end (Err refusal) (subst P is flow) (same_flow ask words (Some files) cause.request request (Err refusal) cause.asked asked cause.flow)
 
   no_text : (placed : PlacedValue) → Ok placed ≡ Err refusal → ⊥
   no_text placed e = cc
@@ -335,10 +346,10 @@ only_refused one ask files words f f' s s' refusal status is cause calm said = b
 pub complete : OneAnswer → OneRequest → (files : List FileEntry) (words : List (List ℕ)) (f f' : FolderState) (s s' : SinkState) (status : Status)
     → f.files ≡ Some files → IsPlaceable words files → AreReadsCalm f f' → AreWritesCalm f f' → ArePutsCalm s s' → Says status words f f' s s' → (status ≡ Done) ⊎ (status ≡ Memory)
 complete one ask files words f f' s s' status is given calm still quiet said = by_status status said where
-  no_refusal : (refusal : Refusal) (request : RequestValue) → IsRequest words request → places f.files request.source request.levels (Err refusal) → ⊥
+  no_refusal : (refusal : Refusal) (request : RequestValue) → IsRequest words request → places f.files request.source request.schedule request.levels (Err refusal) → ⊥
   no_refusal refusal request asked flow =
-      let P : Option (List FileEntry) → Type 0 = λ o. places o request.source request.levels (Err refusal) in
-      never_refused one files given.request.source given.request.levels given.records given.design given.network refusal given.accepted given.joined given.wired given.chains given.room
+      let P : Option (List FileEntry) → Type 0 = λ o. places o request.source request.schedule request.levels (Err refusal) in
+      never_refused one files given.request.source given.request.schedule given.request.levels given.records given.design given.network refusal given.accepted given.scheduled given.joined given.wired given.chains given.room
       (same_flow ask words (Some files) request given.request (Err refusal) asked given.asked (subst P is flow))
 
   unwritten : {name : List ℕ} {placed : PlacedValue} → IsUnwritten name placed f f' s s' → ⊥

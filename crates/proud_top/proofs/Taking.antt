@@ -1,10 +1,10 @@
 -- From what the files of a design or the texts of a grid answered to what the taking of a source says.
-use Rattle.std.proofs.Common.{◌≡◌, ◌⊎◌, ◌<◌, ◌≤◌, ℕ, suc, List, length, refl, sym, ◌∙◌, ap, subst, inl, inr, arith}
+use Rattle.std.proofs.Common.{◌≡◌, ◌⊎◌, ◌<◌, ◌≤◌, ℕ, suc, List, length, refl, sym, ◌∙◌, ap, subst, inl, inr, lit<, arith}
 use Rattle.std.specs.Prelude.{Option, Some, None, IfSome, Result, Ok, Err}
 use Rattle.std.proofs.lemmas.Bool.{cases_order}
 use Rattle.book_outer.specs.State.{FolderState}
 use Rattle.book_files.specs.declared.records.FileKind.{FileKind}
-use Rattle.book_files.specs.declared.records.FileKind.TheVariants.{Aux, Nodes, Nets, Wts, Pl, Scl}
+use Rattle.book_files.specs.declared.records.FileKind.TheVariants.{Aux, Nodes, Nets, Wts, Pl, Scl, Schedule}
 use Rattle.book_files.specs.declared.loading.TheConstants.{MOST_BYTES}
 use Rattle.grid_design.specs.declared.asked.Grid.{Grid}
 use Rattle.grid_design.specs.declared.design.Texts.{Texts as Generated}
@@ -18,15 +18,15 @@ use Rattle.proud_top.specs.Texts.{Texts, text_of, AreShort, IsGoodText, AreGoodB
 use Rattle.proud_top.specs.Statuses.{IsUntouched, ReadsNothing}
 use Rattle.proud_top.specs.Forms.Inputs.{IsSoundText, AreSound}
 use Rattle.proud_top.specs.Forms.Gathering.{Looks}
-use Rattle.proud_top.specs.Forms.Stops.{Gathers}
-use Rattle.proud_top.specs.Forms.Sources.{Takes, StopsLooking, IsWrong, LooksAt, LooksThrough, Generates, generated}
+use Rattle.proud_top.specs.Forms.Stops.{Gathers, IsOfSource}
+use Rattle.proud_top.specs.Forms.Sources.{TakesSource, StopsLooking, IsWrong, LooksAt, LooksThrough, Generates, generated}
 use Rattle.proud_top.proofs.Once.{one_text, rank_once}
 
 -- the source is a design
-pub take_design : (old new : FolderState) (word : List ℕ) (result : Result Texts Stop) → Gathers old new word result → Takes old new (of_design word) result
+pub take_design : (old new : FolderState) (word : List ℕ) (result : Result Texts Stop) → Gathers old new word result → TakesSource old new (of_design word) result
 take_design old new word (Ok texts) h = h
 take_design old new word (Err (Refused refusal)) h = h
-take_design old new word (Err (ReadFault kind)) h = (h.0, h.1, (word, refl, h.2))
+take_design old new word (Err (ReadFault kind)) h = (h.0, h.1, record { word = word; design = refl; at = h.2 }, h.3)
 take_design old new word (Err Memory) h = h
 
 -- or a grid, for which the folder isn't touched
@@ -36,9 +36,9 @@ same_folder old = record { files = refl; write_faults = refl }
 none_read : (old : FolderState) → ReadsNothing old old
 none_read old = record { begun = refl; missed = refl; read_faults = refl }
 
-pub take_grid : (old : FolderState) (grid : Grid) (result : Result Texts Stop) → Generates grid result → Takes old old (of_grid grid) result
+pub take_grid : (old : FolderState) (grid : Grid) (result : Result Texts Stop) → Generates grid result → TakesSource old old (of_grid grid) result
 take_grid old grid (Ok texts) h = (same_folder old, h, none_read old)
-take_grid old grid (Err (Refused refusal)) h = (same_folder old, h.0, none_read old, h.1)
+take_grid old grid (Err (Refused refusal)) h = (same_folder old, h.0, none_read old, h.1, h.2)
 take_grid old grid (Err (ReadFault kind)) h = absurd h
 take_grid old grid (Err Memory) h = (same_folder old, refl)
 
@@ -50,6 +50,7 @@ none_before texts Nets text less is = absurd (omega arith)
 none_before texts Wts text less is = absurd (omega arith)
 none_before texts Pl text less is = absurd (omega arith)
 none_before texts Scl text less is = absurd (omega arith)
+none_before texts Schedule text less is = absurd (omega arith)
 
 -- the text of the kind is accepted, too
 pub one_more : (texts : Texts) (kind : FileKind) (text : List ℕ) → AreGoodBelow texts (rank kind) → text_of texts kind ≡ Some text → IsGoodText kind text → AreGoodBelow texts (suc (rank kind))
@@ -65,15 +66,25 @@ one_more texts kind text below there good before earlier less is = by_order (cas
       let Q : List ℕ → Type 0 = λ t. IsGoodText before t in
       subst Q same (subst P kinds good)
 
+-- a text of a source is of a kind of its files
+text_of_source : (texts : Texts) (kind : FileKind) (text : List ℕ) → text_of texts kind ≡ Some text → IsOfSource kind
+text_of_source texts Aux text is = lit< tt
+text_of_source texts Nodes text is = lit< tt
+text_of_source texts Nets text is = lit< tt
+text_of_source texts Wts text is = lit< tt
+text_of_source texts Pl text is = lit< tt
+text_of_source texts Scl text is = lit< tt
+text_of_source texts Schedule text is = absurd (let x : ⊥ = cc in x)
+
 -- or what is wrong with it is first wrong with all
 wrong_first : (texts : Texts) (kind : FileKind) (text : List ℕ) (refusal : Refusal) → AreGoodBelow texts (rank kind) → text_of texts kind ≡ Some text → IsWrong kind text refusal
     → StopsLooking texts (Refused refusal)
 wrong_first texts kind text refusal below there (inl (is, long)) =
     let S : Refusal → Type 0 = λ r. StopsLooking texts (Refused r) in
-    subst S (sym is) (record { text = text; there = there; before = below; long = long }, record { node = refl; point = refl })
+    subst S (sym is) (record { text = text; there = there; before = below; long = long }, record { node = refl; point = refl }, text_of_source texts kind text there)
 wrong_first texts kind text refusal below there (inr (short, (fault, is, faulty))) =
     let S : Refusal → Type 0 = λ r. StopsLooking texts (Refused r) in
-    subst S (sym is) (record { text = text; there = there; before = below; short = short; faulty = faulty }, record { node = refl; point = refl })
+    subst S (sym is) (record { text = text; there = there; before = below; short = short; faulty = faulty }, record { node = refl; point = refl }, text_of_source texts kind text there)
 
 pub look_stopped : (texts : Texts) (kind : FileKind) (text : List ℕ) (stop : Stop) → AreGoodBelow texts (rank kind) → text_of texts kind ≡ Some text → LooksAt kind text (Err stop) → StopsLooking texts stop
 look_stopped texts kind text (Refused refusal) below there k = wrong_first texts kind text refusal below there k
@@ -116,6 +127,7 @@ are_short texts h Nets bytes e = short_as Nets texts.nets bytes h.nets e
 are_short texts h Wts bytes e = short_weights texts.wts bytes h.wts e
 are_short texts h Pl bytes e = short_as Pl texts.pl bytes h.pl e
 are_short texts h Scl bytes e = short_as Scl texts.scl bytes h.scl e
+are_short texts h Schedule bytes e = absurd (let x : ⊥ = cc in x)
 
 -- the texts that are made are those of the grid
 pub made_texts : (grid : Grid) (texts : Generated) → AreTextsOf grid texts → generated texts ≡ grid_texts grid

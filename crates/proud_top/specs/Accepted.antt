@@ -3,7 +3,7 @@ use Rattle.std.specs.Prelude.{◌≡◌, ℕ, ◌+◌, ◌-◌, ◌^◌, ◌<◌
 use Rattle.book_outer.specs.Files.{FileEntry, content}
 use Rattle.book_outer.specs.State.{FolderState}
 use Rattle.book_files.specs.declared.records.FileKind.{FileKind}
-use Rattle.book_files.specs.declared.records.FileKind.TheVariants.{Aux, Nodes, Nets, Wts, Pl, Scl}
+use Rattle.book_files.specs.declared.records.FileKind.TheVariants.{Aux, Nodes, Nets, Wts, Pl, Scl, Schedule}
 use Rattle.book_files.specs.declared.fault.TextFault.{TextFault}
 use Rattle.book_files.specs.Entries.{AuxEntry, NodeEntry, NetEntry, WeightEntry, PlaceEntry, RowEntry}
 use Rattle.book_files.specs.Grammar.{Grammar, IsReading, IsFirstFault}
@@ -13,6 +13,8 @@ use Rattle.book_files.specs.NetRules.{nets_grammar}
 use Rattle.book_files.specs.WeightRules.{weights_grammar}
 use Rattle.book_files.specs.PlaceRules.{places_grammar}
 use Rattle.book_files.specs.RowRules.{rows_grammar}
+use Rattle.book_files.specs.ScheduleRules.{schedule_grammar}
+use Rattle.book_files.specs.declared.schedule.Event.{Event}
 use Rattle.book_files.specs.Loading.{HasLongText}
 use Rattle.book_files.specs.declared.loading.TheConstants.{MOST_BYTES}
 use Rattle.book_design.specs.Records.{Records}
@@ -50,6 +52,7 @@ IsReadable Nets text = (nets : List NetEntry) × IsReading nets_grammar text net
 IsReadable Wts text = (weights : List WeightEntry) × IsReading weights_grammar text weights
 IsReadable Pl text = (places : List PlaceEntry) × IsReading places_grammar text places
 IsReadable Scl text = (rows : List RowEntry) × IsReading rows_grammar text rows
+IsReadable Schedule text = (events : List Event) × IsReading schedule_grammar text events
 
 -- the file of the kind alone is accepted
 pub record IsAccepted (files : List FileEntry) (name : List ℕ) (kind : FileKind) : Type 0 where
@@ -75,6 +78,14 @@ IsFaultOf Nets text fault = IsFirstFault nets_grammar text fault
 IsFaultOf Wts text fault = IsFirstFault weights_grammar text fault
 IsFaultOf Pl text fault = IsFirstFault places_grammar text fault
 IsFaultOf Scl text fault = IsFirstFault rows_grammar text fault
+IsFaultOf Schedule text fault = IsFirstFault schedule_grammar text fault
+
+-- the file of the name is there, isn't too long, and has this first fault of a text of the kind
+pub record HasBadText (files : List FileEntry) (name : List ℕ) (kind : FileKind) (fault : TextFault) : Type 0 where
+  pub text : List ℕ
+  pub there : content files name ≡ Some text
+  pub short : length text ≤ MOST_BYTES
+  pub faulty : IsFaultOf kind text fault
 
 -- the file of the kind is the next, and has more bytes than a file may have
 pub record IsTooLong (files : List FileEntry) (word : List ℕ) (kind : FileKind) : Type 0 where

@@ -1,10 +1,10 @@
--- Two runs that place the same, by any numbers of seats.
+-- Two runs that place the same, by any numbers of seats and by any schedules.
 use Rattle.std.specs.Prelude.{◌≡◌, ℕ, List}
 use Rattle.std.specs.Io.KnownBytes.{Appends}
 use Rattle.book_outer.specs.State.{FolderState, SinkState}
 use Rattle.proud_words.specs.Request.{RequestValue, IsRequest}
 
--- both words ask for the same placement: they differ in the number of seats at most
+-- both words ask for the same placement: they differ at most in the number of seats and in the schedule
 pub record AreSameButSeats (words words' : List (List ℕ)) : Type 0 where
   pub request : RequestValue
   pub request' : RequestValue

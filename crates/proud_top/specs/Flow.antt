@@ -2,7 +2,7 @@
 use Rattle.std.specs.Prelude.{◌≡◌, ◌⊎◌, ℕ, ◌<◌, List, length, Option, Some, None, Result, Ok, Err}
 use Rattle.book_outer.specs.Files.{FileEntry}
 use Rattle.book_files.specs.declared.records.FileKind.{FileKind}
-use Rattle.book_files.specs.declared.records.FileKind.TheVariants.{Scl}
+use Rattle.book_files.specs.declared.records.FileKind.TheVariants.{Schedule}
 use Rattle.book_files.specs.Entries.{AuxEntry}
 use Rattle.book_design.specs.declared.fault.DesignFault.{DesignFault}
 use Rattle.book_design.specs.Records.{Records}
@@ -17,7 +17,8 @@ use Rattle.net_model.specs.Network.{IsNetwork, IsFirstFault as IsFirstNetFault}
 use Rattle.net_model.specs.Webs.{joints_of}
 use Rattle.proud_top.specs.declared.status.Refusal.{Refusal}
 use Rattle.proud_top.specs.declared.status.Refusal.TheVariants.{TooLong, Text, Design, Net, Unanchored, NoRoom}
-use Rattle.proud_top.specs.Accepted.{Accepts, IsTooLong, IsBadText}
+use Rattle.book_files.specs.Loading.{HasLongText}
+use Rattle.proud_top.specs.Accepted.{Accepts, IsAccepted, IsTooLong, IsBadText, HasBadText}
 use Rattle.level_run.specs.declared.level.Level.{Level}
 use Rattle.level_run.specs.Levels.{IsGap, level_at}
 use Rattle.row_space.specs.Values.{SegmentsValue}
@@ -76,6 +77,24 @@ reads_texts texts (Err (NoRoom cell sites largest)) = ⊥
 abbrev pub reads : Option (List FileEntry) → SourceValue → Result Records Refusal → Type 0
 reads files (of_design word) result = reads_design files word result
 reads files (of_grid grid) result = reads_texts (grid_texts grid) result
+
+-- the file of a schedule is accepted; or what is wrong with it
+abbrev pub reads_events : List FileEntry → List ℕ → Result (Unit {0}) Refusal → Type 0
+reads_events files name (Ok done) = IsAccepted files name Schedule
+reads_events files name (Err (TooLong kind)) = (kind ≡ Schedule) × HasLongText files name
+reads_events files name (Err (Text kind fault)) = (kind ≡ Schedule) × HasBadText files name Schedule fault
+reads_events files name (Err (Design fault)) = ⊥
+reads_events files name (Err (Net fault)) = ⊥
+reads_events files name (Err (Unanchored point)) = ⊥
+reads_events files name (Err (NoRoom cell sites largest)) = ⊥
+
+-- The schedule, where one is named, is accepted; or what is wrong with it. Its events make no difference to what is placed. Where
+-- the files are unknown, nothing is said of it.
+abbrev pub schedules : Option (List FileEntry) → Option (List ℕ) → Result (Unit {0}) Refusal → Type 0
+schedules files None (Ok done) = Unit {0}
+schedules files None (Err refusal) = ⊥
+schedules None (Some name) result = Unit {0}
+schedules (Some files) (Some name) result = reads_events files name result
 
 -- the design that the records make, or their first fault
 abbrev pub joins : Records → Result DesignValue Refusal → Type 0
@@ -144,15 +163,20 @@ places_levels count design levels = spaces design then λ rows. wishes design co
 abbrev pub places_records : ℕ → Records → Result PlacedValue Refusal → Type 0
 places_records count records = joins records then λ design. wires design then λ network. reaches network then λ done. solves network count then λ levels. places_levels count design levels
 
--- The whole flow: what the source is placed as with so many levels after the first, or the refusal at the first step that stops.
-abbrev pub places : Option (List FileEntry) → SourceValue → ℕ → Result PlacedValue Refusal → Type 0
-places files source levels = reads files source then places_records levels
+-- the steps from the schedule on
+abbrev pub places_scheduled : Option (List FileEntry) → Option (List ℕ) → ℕ → Records → Result PlacedValue Refusal → Type 0
+places_scheduled files schedule levels records = schedules files schedule then λ done. places_records levels records
 
--- the last file of a design that is begun before a refusal
+-- The whole flow: what the source is placed as with so many levels after the first, by a crew or by the schedule of this name; or the
+-- refusal at the first step that stops.
+abbrev pub places : Option (List FileEntry) → SourceValue → Option (List ℕ) → ℕ → Result PlacedValue Refusal → Type 0
+places files source schedule levels = reads files source then places_scheduled files schedule levels
+
+-- the last file that is begun before a refusal: behind the texts all were, and that of a schedule is the last
 abbrev pub last_kind : Refusal → FileKind
 last_kind (TooLong kind) = kind
 last_kind (Text kind fault) = kind
-last_kind (Design fault) = Scl
-last_kind (Net fault) = Scl
-last_kind (Unanchored point) = Scl
-last_kind (NoRoom cell sites largest) = Scl
+last_kind (Design fault) = Schedule
+last_kind (Net fault) = Schedule
+last_kind (Unanchored point) = Schedule
+last_kind (NoRoom cell sites largest) = Schedule

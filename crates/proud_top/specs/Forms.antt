@@ -5,3 +5,4 @@ pub mod Saying
 pub mod Stops
 pub mod Sources
 pub mod Gathering
+pub mod Schedules

@@ -1,7 +1,7 @@
 -- The lines that tell why there is no placement.
 use Rattle.std.specs.Prelude.{ℕ, List, [], ◌∷◌, ◌++◌, codes, decimal}
 use Rattle.book_files.specs.declared.records.FileKind.{FileKind}
-use Rattle.book_files.specs.declared.records.FileKind.TheVariants.{Aux, Nodes, Nets, Wts, Pl, Scl}
+use Rattle.book_files.specs.declared.records.FileKind.TheVariants.{Aux, Nodes, Nets, Wts, Pl, Scl, Schedule}
 use Rattle.book_files.specs.declared.loading.TheConstants.{MOST_BYTES}
 use Rattle.book_files.specs.declared.fault.TextKind.{TextKind}
 use Rattle.book_files.specs.declared.fault.TextKind.TheVariants.{BadHeader, BadLine, BadNumber, CountMismatch}
@@ -20,13 +20,14 @@ kind_text Nets = codes "nets"
 kind_text Wts = codes "wts"
 kind_text Pl = codes "pl"
 kind_text Scl = codes "scl"
+kind_text Schedule = codes "schedule"
 
 -- the byte 10 ends a line
 abbrev pub ended : List ℕ → List ℕ
 ended text = text ++ 10 ∷ []
 
 abbrev pub usage_line : List ℕ
-usage_line = ended (codes "usage: proud [--levels N] [--seats N] [--out FILE] (DESIGN | --grid R,C,K)")
+usage_line = ended (codes "usage: proud [--levels N] [--seats N] [--out FILE] [--schedule FILE] (DESIGN | --grid R,C,K)")
 
 abbrev pub cannot_read_line : FileKind → List ℕ
 cannot_read_line kind = ended (codes "proud: cannot read " ++ kind_text kind)

@@ -1,11 +1,11 @@
 -- What each status says: why it comes, and what stands then.
-use Rattle.std.specs.Prelude.{◌≡◌, ◌⊎◌, ℕ, ◌<◌, List, length, take, Option, Some, IfSome, Ok, Err, option_map}
+use Rattle.std.specs.Prelude.{◌≡◌, ◌⊎◌, ℕ, ◌<◌, List, length, take, Option, Some, None, IfSome, IsSome, Ok, Err, option_map}
 use Rattle.std.specs.Io.KnownBytes.{Appends}
 use Rattle.book_outer.specs.Cause.{Rose}
-use Rattle.book_outer.specs.Files.{FileEntry, with_content}
+use Rattle.book_outer.specs.Files.{FileEntry, content, with_content}
 use Rattle.book_outer.specs.State.{FolderState, SinkState}
 use Rattle.book_files.specs.declared.records.FileKind.{FileKind}
-use Rattle.book_files.specs.declared.records.FileKind.TheVariants.{Scl}
+use Rattle.book_files.specs.declared.records.FileKind.TheVariants.{Aux, Nodes, Nets, Wts, Pl, Scl, Schedule}
 use Rattle.book_design.specs.Records.{Records}
 use Rattle.book_design.specs.Values.{DesignValue}
 use Rattle.book_design.specs.Answers.{IsJoined}
@@ -26,10 +26,10 @@ use Rattle.row_legal.specs.declared.parts.Place.{Place}
 use Rattle.row_legal.specs.Cells.{CellsValue}
 use Rattle.row_legal.specs.Places.{IsLegalised}
 use Rattle.proud_words.specs.Request.{RequestValue, SourceValue, of_design, of_grid, IsRequest}
-use Rattle.proud_top.specs.Accepted.{IsFaultAt, IsLast}
+use Rattle.proud_top.specs.Accepted.{IsFaultAt, IsLast, HasBegun}
 use Rattle.proud_top.specs.Wishes.{AreCells}
 use Rattle.proud_top.specs.Placement.{IsLegalText}
-use Rattle.proud_top.specs.Flow.{PlacedValue, reads, places, last_kind}
+use Rattle.proud_top.specs.Flow.{PlacedValue, reads, schedules, places, last_kind}
 use Rattle.proud_top.specs.Named.{IsNameIn}
 
 -- the status of a run that stopped before there was a placement
@@ -54,36 +54,82 @@ abbrev pub HasRead : FileKind → SourceValue → FolderState → FolderState �
 HasRead kind (of_design word) old new = HasReadUpTo kind word old new
 HasRead kind (of_grid grid) old new = ReadsNothing old new
 
+-- one more file was begun, and it is there where the files are known
+pub record ReadsOneMore (old new : FolderState) : Type 0 where
+  pub begun : HasBegun old new 1
+  pub missed : new.missed ≡ old.missed
+  pub read_faults : new.read_faults ≡ old.read_faults
+
+-- the source's files were read, and then that of the schedule, where one is named
+abbrev pub HasReadAll : SourceValue → Option (List ℕ) → FolderState → FolderState → Type 0
+HasReadAll source None old new = HasRead Scl source old new
+HasReadAll source (Some name) old new = (mid : FolderState) × HasRead Scl source old mid × ReadsOneMore mid new
+
+-- all files up to that of the kind were read, of which that of the schedule is the last
+abbrev pub HasReadTo : FileKind → SourceValue → Option (List ℕ) → FolderState → FolderState → Type 0
+HasReadTo Aux source schedule old new = HasRead Aux source old new
+HasReadTo Nodes source schedule old new = HasRead Nodes source old new
+HasReadTo Nets source schedule old new = HasRead Nets source old new
+HasReadTo Wts source schedule old new = HasRead Wts source old new
+HasReadTo Pl source schedule old new = HasRead Pl source old new
+HasReadTo Scl source schedule old new = HasRead Scl source old new
+HasReadTo Schedule source schedule old new = HasReadAll source schedule old new
+
 -- The words ask for a source that is placed as this, and its cells stand legally.
 pub record IsPlacedAs (words : List (List ℕ)) (old new : FolderState) (placed : PlacedValue) : Type 0 where
   pub request : RequestValue
   pub asked : IsRequest words request
-  pub flow : places old.files request.source request.levels (Ok placed)
-  pub read : HasRead Scl request.source old new
+  pub flow : places old.files request.source request.schedule request.levels (Ok placed)
+  pub read : HasReadAll request.source request.schedule old new
   pub legal : IsLegalText (λ records. reads old.files request.source (Ok records)) placed.file
 
 -- the words ask for a source that is refused by this
 pub record IsCause (words : List (List ℕ)) (files : Option (List FileEntry)) (refusal : Refusal) : Type 0 where
   pub request : RequestValue
   pub asked : IsRequest words request
-  pub flow : places files request.source request.levels (Err refusal)
+  pub flow : places files request.source request.schedule request.levels (Err refusal)
 
 -- and this is the line that says so, with the name of the node that the refusal names
 pub record IsRefusal (words : List (List ℕ)) (old new : FolderState) (refusal : Refusal) (text : List ℕ) : Type 0 where
   pub cause : IsCause words old.files refusal
-  pub read : HasRead (last_kind refusal) cause.request.source old new
+  pub read : HasReadTo (last_kind refusal) cause.request.source cause.request.schedule old new
   pub name : List ℕ
   pub named : IsNameIn (λ records. reads old.files cause.request.source (Ok records)) refusal name
   pub line : text ≡ refusal_line refusal name
 
--- The words ask for the design of this word, and a read fault was counted at its file of the kind.
+-- the source is the design of this word, and the fault stands at its file of the kind
+pub record IsUnreadFile (kind : FileKind) (source : SourceValue) (old new : FolderState) : Type 0 where
+  pub word : List ℕ
+  pub design : source ≡ of_design word
+  pub at : IfSome old.files (λ files. IsFaultAt files word kind old new)
+
+-- A schedule is named, and the fault stands at its file: what the source reads as was accepted before, and where the file is there, no
+-- absent file was begun.
+pub record IsUnreadSchedule (source : SourceValue) (schedule : Option (List ℕ)) (old new : FolderState) : Type 0 where
+  pub name : List ℕ
+  pub named : schedule ≡ Some name
+  pub before : FolderState
+  pub read : HasRead Scl source old before
+  pub accepted : (records : Records) × reads old.files source (Ok records)
+  pub begun : HasBegun before new 1
+  pub present : IfSome old.files (λ files. IsSome (content files name) → new.missed ≡ before.missed)
+
+-- the fault stands at the file of the kind
+abbrev pub IsUnreadAt : FileKind → SourceValue → Option (List ℕ) → FolderState → FolderState → Type 0
+IsUnreadAt Aux source schedule old new = IsUnreadFile Aux source old new
+IsUnreadAt Nodes source schedule old new = IsUnreadFile Nodes source old new
+IsUnreadAt Nets source schedule old new = IsUnreadFile Nets source old new
+IsUnreadAt Wts source schedule old new = IsUnreadFile Wts source old new
+IsUnreadAt Pl source schedule old new = IsUnreadFile Pl source old new
+IsUnreadAt Scl source schedule old new = IsUnreadFile Scl source old new
+IsUnreadAt Schedule source schedule old new = IsUnreadSchedule source schedule old new
+
+-- The words ask for a source, and a read fault was counted at the file of the kind.
 pub record IsUnread (words : List (List ℕ)) (old new : FolderState) (kind : FileKind) (text : List ℕ) : Type 0 where
   pub request : RequestValue
-  pub word : List ℕ
   pub asked : IsRequest words request
-  pub design : request.source ≡ of_design word
   pub rose : Rose old.read_faults new.read_faults
-  pub at : IfSome old.files (λ files. IsFaultAt files word kind old new)
+  pub at : IsUnreadAt kind request.source request.schedule old new
   pub line : text ≡ cannot_read_line kind
 
 -- the words ask for nothing
@@ -195,8 +241,8 @@ Says (ReadFault kind) words folder folder' report report' = IsReadFault words ki
 Says WriteFault words folder folder' report report' = IsWriteFault words folder folder' report report'
 Says Memory words folder folder' report report' = IsMemory words folder folder' report report'
 
--- The source that the words ask for can be placed: its texts have no fault, nor has what they make, each point has a chain, and the
--- greedy rule finds room for each cell.
+-- The source that the words ask for can be placed: its texts have no fault, nor has the schedule, where one is named, nor what the texts
+-- make; each point has a chain, and the greedy rule finds room for each cell.
 pub record IsPlaceable (words : List (List ℕ)) (files : List FileEntry) : Type 0 where
   pub request : RequestValue
   pub records : Records
@@ -204,6 +250,7 @@ pub record IsPlaceable (words : List (List ℕ)) (files : List FileEntry) : Type
   pub network : NetworkValue
   pub asked : IsRequest words request
   pub accepted : reads (Some files) request.source (Ok records)
+  pub scheduled : schedules (Some files) request.schedule (Ok tt)
   pub joined : IsJoined records design
   pub wired : IsNetwork design network
   pub chains : (p : ℕ) → p < length network.points → HasChain (joints_of network) p

@@ -1,7 +1,7 @@
 -- The texts of a design, and as which records they read; and the texts that a grid makes.
 use Rattle.std.specs.Prelude.{◌≡◌, ℕ, ◌<◌, ◌≤◌, List, length, Option, Some, None}
 use Rattle.book_files.specs.declared.records.FileKind.{FileKind}
-use Rattle.book_files.specs.declared.records.FileKind.TheVariants.{Aux, Nodes, Nets, Wts, Pl, Scl}
+use Rattle.book_files.specs.declared.records.FileKind.TheVariants.{Aux, Nodes, Nets, Wts, Pl, Scl, Schedule}
 use Rattle.book_files.specs.declared.fault.TextFault.{TextFault}
 use Rattle.book_files.specs.Entries.{WeightEntry}
 use Rattle.book_files.specs.Grammar.{IsReading}
@@ -33,6 +33,7 @@ text_of texts Nets = Some texts.nets
 text_of texts Wts = texts.wts
 text_of texts Pl = Some texts.pl
 text_of texts Scl = Some texts.scl
+text_of texts Schedule = None
 
 -- there are weights exactly where there is a text of them, which reads as them
 abbrev pub AreWeights : Option (List ℕ) → Option (List WeightEntry) → Type 0

@@ -15,7 +15,7 @@ use crate::status::Refusal;
 use crate::stop::Stop;
 use book_files::{
     AuxFile, FileKind, LoadError, ReadError, load, one_answer, read_aux, read_nets, read_nodes,
-    read_pl, read_scl, read_wts,
+    read_pl, read_scl, read_schedule, read_wts,
 };
 use book_outer::Folder;
 use book_text::Memory;
@@ -96,7 +96,7 @@ fn next_text<F: Folder>(
 }
 
 /// The bytes of the file of the kind.
-fn load_kind<F: Folder>(
+pub(crate) fn load_kind<F: Folder>(
     alloc: Global,
     folder: &mut F,
     kind: FileKind,
@@ -124,6 +124,7 @@ pub(crate) fn look(alloc: Global, kind: FileKind, text: &[u8]) -> Result<(), Sto
         FileKind::Wts => looked(kind, read_wts(alloc, text)),
         FileKind::Pl => looked(kind, read_pl(alloc, text)),
         FileKind::Scl => looked(kind, read_scl(alloc, text)),
+        FileKind::Schedule => looked(kind, read_schedule(alloc, text)),
     }
 }
 

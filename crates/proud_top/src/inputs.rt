@@ -44,7 +44,15 @@ impl Model for Inputs {
 
 impl Inputs {
     ghost use Rattle.proud_top.specs.Named.{IsNodeName, IsPointName};
+    ghost use Rattle.proud_top.specs.Forms.Inputs.{AreSound};
     ghost use Rattle.proud_top.specs.Forms.Stops.{Designs, HasNode, HasPoint};
+
+    /// Does nothing; its clause is what holds of the texts.
+    pub(crate) fn know(&self)
+        ensures { AreSound self.now }
+    {
+        let _ = &self.nodes;
+    }
 
     /// The design that the texts make, or their first fault.
     pub(crate) fn design(&self, alloc: Global) -> Result<Design<'_>, Stop>

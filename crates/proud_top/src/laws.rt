@@ -8,6 +8,7 @@ ghost use Rattle.book_files.specs.NetRules.{nets_grammar};
 ghost use Rattle.book_files.specs.WeightRules.{weights_grammar};
 ghost use Rattle.book_files.specs.PlaceRules.{places_grammar};
 ghost use Rattle.book_files.specs.RowRules.{rows_grammar};
+ghost use Rattle.book_files.specs.ScheduleRules.{schedule_grammar};
 ghost use Rattle.book_design.specs.Records.{Records};
 ghost use Rattle.book_design.specs.Values.{DesignValue};
 ghost use Rattle.book_design.specs.Answers.{HasOneJoin};
@@ -34,6 +35,7 @@ pub(crate) fn laws()
     ensures wts { (text : List ℕ) → HasOneAnswer weights_grammar text }
     ensures pl { (text : List ℕ) → HasOneAnswer places_grammar text }
     ensures scl { (text : List ℕ) → HasOneAnswer rows_grammar text }
+    ensures schedule { (text : List ℕ) → HasOneAnswer schedule_grammar text }
     ensures join { (files : Records) → HasOneJoin files }
     ensures network { (design : DesignValue) → HasOneNetwork design }
     ensures levels { (network : NetworkValue) (count : ℕ) (a b : List Level) → IsLevels network count a → IsLevels network count b → a ≡ b }

@@ -1,9 +1,9 @@
 //! The top call: from the words of a command line and a folder of files to a placement.
 //!
 //! It is two lists of steps. What touches the outside is `run`: read the words, take the texts of the design's files or those
-//! that a grid makes, place them, deliver the placement into the output file and then the report; a step that stops puts its line
+//! that a grid makes and the events of a schedule where one is named, place them, deliver the placement into the output file and then the report; a step that stops puts its line
 //! instead. What is a function of values is `place`: join the texts to a design, make its network, find that each point reaches a
-//! pad, cut the core and solve each level on each axis from below and from above by a crew of seats, find the free segments of
+//! pad, cut the core and solve each level on each axis from below and from above by a crew of seats or by the schedule, find the free segments of
 //! the rows, give each cell a place there by the greedy rule, take the corners of all nodes, write the placement, measure its
 //! wires, and make the report. What comes in are words, a folder, a sink for the report and a gate; what goes out is a status.
 //! The one contract is that of `proud`, over the same list of steps as a definition (`specs/Flow.antt`).
@@ -16,7 +16,6 @@
 mod alike;
 mod cells;
 mod corners;
-mod crew;
 mod deliver;
 mod exit;
 mod gather;
@@ -25,6 +24,8 @@ mod laws;
 mod place;
 mod placement;
 mod refusal;
+mod schedule;
+mod solver;
 mod source;
 mod status;
 mod stop;

@@ -5,9 +5,9 @@ ghost use Rattle.proud_top.specs.Forms.Stops.{Places};
 
 use crate::cells::point_cells;
 use crate::corners::corners;
-use crate::crew::Crew;
 use crate::inputs::Inputs;
 use crate::placement::placement_text;
+use crate::solver::Solver;
 use crate::stop::Stop;
 use book_outer::Gate;
 use level_run::{MOST_LEVELS, gap};
@@ -28,9 +28,9 @@ pub(crate) struct Placed {
     pub(crate) report: Vec<u8>,
 }
 
-/// What the texts make, solved by the crew with so many levels after the first, or the refusal at the first step that stops.
+/// What the texts make, solved with so many levels after the first, or the refusal at the first step that stops.
 pub(crate) fn place<R: Threads + Sync, G: Gate>(
-    crew: &Crew<'_, R, G>,
+    solver: &Solver<'_, R, G>,
     alloc: Global,
     inputs: &Inputs,
     count: u32,
@@ -41,13 +41,13 @@ pub(crate) fn place<R: Threads + Sync, G: Gate>(
     let design = inputs.design(alloc)?;
     let network = network(alloc, &design)?;
     let reach = reach(alloc, &network)?;
-    let levels = crew.solve(alloc, &network, &reach, count)?;
+    let levels = solver.solve(alloc, &network, &reach, count)?;
     let segments = segments(alloc, &design)?;
     let cells = point_cells(alloc, &design, &levels, count)?;
     let sites = legalise(alloc, &segments, &cells.sites, &cells.wishes)?;
     let corners = corners(alloc, &design, &segments, &sites)?;
     let file = placement_text(alloc, &design, &corners)?;
-    let wire = hpwl(crew.rt(), alloc, &design, &corners)?;
+    let wire = hpwl(solver.rt(), alloc, &design, &corners)?;
     let report = report_text(alloc, &design, count, gap(&levels), wire)?;
     Ok(Placed { file, report })
 }

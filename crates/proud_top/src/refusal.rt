@@ -311,5 +311,6 @@ fn kind_text(kind: FileKind) -> &'static str
         FileKind::Wts => "wts",
         FileKind::Pl => "pl",
         FileKind::Scl => "scl",
+        FileKind::Schedule => "schedule",
     }
 }

@@ -1,27 +1,52 @@
-//! The texts of a source: those of a design's files, or those that a grid makes.
+//! What is placed: the texts of a design's files, or those that a grid makes; and the events of a schedule, where one is named.
 
+ghost use Rattle.std.specs.Prelude.{option_map};
 ghost use Rattle.grid_design.specs.Asked.{IsSide};
 ghost use Rattle.proud_words.specs.Asked.{source_value};
-ghost use Rattle.proud_top.specs.Forms.Sources.{HasGoodSides, Takes, Generates, LooksThrough, LooksAt, generated};
+ghost use Rattle.proud_top.specs.Forms.Sources.{HasGoodSides, Takes, TakesSource, Generates, LooksThrough, LooksAt, generated};
 
 use crate::gather::{gather, look};
 use crate::inputs::Inputs;
+use crate::laws::laws;
+use crate::schedule::events_of;
 use crate::status::Refusal;
 use crate::stop::Stop;
-use book_files::{FileKind, MOST_BYTES};
+use book_files::{Events, FileKind, MOST_BYTES};
 use book_outer::Folder;
 use grid_design::{Grid, Texts, grid_texts};
 use proud_words::Source;
 use std::alloc::Global;
 
-/// The texts of the source. Those of a design are read from the folder; for a grid nothing of it is touched.
+/// What is placed, and by which events where a schedule is named.
+#[derive(Drop)]
+pub(crate) struct Taken {
+    /// The texts of the source.
+    pub(crate) inputs: Inputs,
+    /// The events of the schedule.
+    pub(crate) events: Option<Events>,
+}
+
+/// The texts of the source, and then the events of the schedule, where one is named.
 pub(crate) fn take<F: Folder>(
     alloc: Global,
     folder: &mut F,
     source: &Source,
-) -> Result<Inputs, Stop>
+    schedule: Option<&str>,
+) -> Result<Taken, Stop>
     requires { HasGoodSides (source_value source.now) }
-    ensures { Takes (F.state folder.old) (F.state folder.new) (source_value source.now) result }
+    ensures { Takes (F.state folder.old) (F.state folder.new) (source_value source.now) (option_map (λ n. n.now) schedule.entry) result }
+{
+    laws();
+    let inputs = take_source(alloc, folder, source)?;
+    inputs.know();
+    let events = events_of(alloc, folder, schedule)?;
+    Ok(Taken { inputs, events })
+}
+
+/// The texts of the source. Those of a design are read from the folder; for a grid nothing of it is touched.
+fn take_source<F: Folder>(alloc: Global, folder: &mut F, source: &Source) -> Result<Inputs, Stop>
+    requires { HasGoodSides (source_value source.now) }
+    ensures { TakesSource (F.state folder.old) (F.state folder.new) (source_value source.now) result }
 {
     match source {
         Source::Design(name) => gather(alloc, folder, name.as_str()),

@@ -1,4 +1,4 @@
-ghost use Rattle.std.specs.Prelude.{◌≡◌, ◌⊎◌, ℕ, List, Some, Result, option_map};
+ghost use Rattle.std.specs.Prelude.{◌≡◌, ◌⊎◌, ℕ, List, Option, Some, Result, option_map};
 ghost use Rattle.book_outer.specs.Files.{FileEntry};
 ghost use Rattle.book_files.specs.declared.records.FileKind.{FileKind};
 ghost use Rattle.proud_top.specs.declared.status.Refusal.{Refusal};
@@ -7,7 +7,7 @@ ghost use Rattle.proud_top.specs.Flow.{PlacedValue, places};
 ghost use Rattle.proud_top.specs.Statuses.{Says, HasNoRequest, IsDone, IsUsage, IsRefused, IsReadFault, IsWriteFault, IsMemory, IsCause, IsPlaceable, AreReadsCalm, AreWritesCalm, ArePutsCalm};
 ghost use Rattle.proud_top.specs.Forms.Stops.{CoversStop, Refuses};
 
-use crate::crew::Crew;
+use crate::solver::Solver;
 use crate::deliver::{deliver, put};
 use crate::inputs::Inputs;
 use crate::laws::laws;
@@ -58,8 +58,8 @@ pub fn proud<R: Threads + Sync, F: Folder, S: Sink, G: Gate>(
         → ((result ≡ Status.Usage) ⊎ (result ≡ Status.Memory)) × (F.state folder.new ≡ F.state folder.old) }
 
     // Where the files are known, the flow has one end at most, and a run without a fault has it.
-    ensures one_end { (files : List FileEntry) (source : SourceValue) (levels : ℕ) (a b : Result PlacedValue Refusal)
-        → places (Some files) source levels a → places (Some files) source levels b → a ≡ b }
+    ensures one_end { (files : List FileEntry) (source : SourceValue) (schedule : Option (List ℕ)) (levels : ℕ) (a b : Result PlacedValue Refusal)
+        → places (Some files) source schedule levels a → places (Some files) source schedule levels b → a ≡ b }
     ensures only_refused { (files : List FileEntry) (refusal : Refusal) → (F.state folder.old).files ≡ Some files
         → IsCause words.now (Some files) refusal → AreReadsCalm (F.state folder.old) (F.state folder.new)
         → (result ≡ Status.Refused refusal) ⊎ (result ≡ Status.Memory) }
@@ -75,7 +75,7 @@ pub fn proud<R: Threads + Sync, F: Folder, S: Sink, G: Gate>(
 
 /// The line that is put where the words ask for nothing.
 const USAGE_LINE: &[u8] =
-    b"usage: proud [--levels N] [--seats N] [--out FILE] (DESIGN | --grid R,C,K)\n";
+    b"usage: proud [--levels N] [--seats N] [--out FILE] [--schedule FILE] (DESIGN | --grid R,C,K)\n";
 
 /// The run: what touches the outside, step by step.
 fn run<R: Threads + Sync, F: Folder, S: Sink, G: Gate>(
@@ -94,14 +94,14 @@ fn run<R: Threads + Sync, F: Folder, S: Sink, G: Gate>(
         Err(WordsFault::Usage) => return put(report, USAGE_LINE, Status::Usage, Status::Usage),
         Err(WordsFault::Memory) => return Status::Memory,
     };
-    let inputs = match take(alloc, folder, &request.source) {
-        Ok(inputs) => inputs,
+    let taken = match take(alloc, folder, &request.source, request.schedule.as_deref()) {
+        Ok(taken) => taken,
         Err(stop) => return refuse(alloc, report, stop, None),
     };
-    let crew = Crew::new(rt, gate, request.seats);
-    match place(&crew, alloc, &inputs, request.levels) {
+    let solver = Solver::new(rt, gate, request.seats, taken.events.as_ref());
+    match place(&solver, alloc, &taken.inputs, request.levels) {
         Ok(placed) => deliver(folder, report, request.out.as_str(), &placed),
-        Err(stop) => refuse(alloc, report, stop, Some(&inputs)),
+        Err(stop) => refuse(alloc, report, stop, Some(&taken.inputs)),
     }
 }
 

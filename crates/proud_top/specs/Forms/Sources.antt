@@ -15,12 +15,14 @@ use Rattle.proud_top.specs.declared.status.Refusal.{Refusal}
 use Rattle.proud_top.specs.declared.status.Refusal.TheVariants.{TooLong, Text}
 use Rattle.proud_top.specs.declared.stop.Stop.{Stop}
 use Rattle.proud_top.specs.declared.stop.Stop.TheVariants.{ReadFault, Refused, Memory}
-use Rattle.proud_top.specs.Accepted.{IsFaultAt, IsFaultOf}
+use Rattle.proud_top.specs.Accepted.{IsFaultOf}
 use Rattle.proud_top.specs.Texts.{Texts, IsGoodText, AreShort, grid_texts}
-use Rattle.proud_top.specs.Flow.{reads, reads_texts, last_kind}
-use Rattle.proud_top.specs.Statuses.{HasRead, IsUntouched}
+use Rattle.book_design.specs.Records.{Records}
+use Rattle.proud_top.specs.declared.source.Taken.{Taken}
+use Rattle.proud_top.specs.Flow.{reads, reads_texts, schedules, last_kind}
+use Rattle.proud_top.specs.Statuses.{HasRead, HasReadTo, HasReadAll, IsUnreadFile, IsUnreadAt, IsUntouched}
 use Rattle.proud_top.specs.Forms.Inputs.{IsSoundText, AreSound, HasTexts}
-use Rattle.proud_top.specs.Forms.Stops.{IsNameless}
+use Rattle.proud_top.specs.Forms.Stops.{IsNameless, IsOfSource}
 
 -- the sides of a grid are in their ranges
 abbrev pub HasGoodSides : SourceValue → Type 0
@@ -28,11 +30,10 @@ HasGoodSides (of_design word) = Unit {0}
 HasGoodSides (of_grid grid) = IsSide grid.rows × IsSide grid.columns
 
 -- What stopped the taking of a source's texts, and what of the folder has changed. A read fault comes at a design's file alone.
-abbrev pub StopsTaking : FolderState → FolderState → SourceValue → Stop → Type 0
-StopsTaking old new source (Refused refusal) = IsUntouched old new × reads old.files source (Err refusal) × HasRead (last_kind refusal) source old new × IsNameless refusal
-StopsTaking old new source (ReadFault kind) = IsUntouched old new × Rose old.read_faults new.read_faults
-    × ((word : List ℕ) × (source ≡ of_design word) × IfSome old.files (λ files. IsFaultAt files word kind old new))
-StopsTaking old new source Memory = IsUntouched old new × (new.read_faults ≡ old.read_faults)
+abbrev pub StopsSource : FolderState → FolderState → SourceValue → Stop → Type 0
+StopsSource old new source (Refused refusal) = IsUntouched old new × reads old.files source (Err refusal) × HasRead (last_kind refusal) source old new × IsNameless refusal × IsOfSource (last_kind refusal)
+StopsSource old new source (ReadFault kind) = IsUntouched old new × Rose old.read_faults new.read_faults × IsUnreadFile kind source old new × IsOfSource kind
+StopsSource old new source Memory = IsUntouched old new × (new.read_faults ≡ old.read_faults)
 
 -- the texts are those of the source
 abbrev pub AreTextsOf : Option (List FileEntry) → SourceValue → Texts → Type 0
@@ -40,9 +41,24 @@ AreTextsOf files (of_design word) texts = IfSome files (λ known. HasTexts known
 AreTextsOf files (of_grid grid) texts = (texts ≡ grid_texts grid) × AreShort texts
 
 -- the texts of the source, or what stopped their taking
-abbrev pub Takes : FolderState → FolderState → SourceValue → Result Texts Stop → Type 0
-Takes old new source (Ok texts) = IsUntouched old new × AreTextsOf old.files source texts × HasRead Scl source old new
-Takes old new source (Err stop) = StopsTaking old new source stop
+abbrev pub TakesSource : FolderState → FolderState → SourceValue → Result Texts Stop → Type 0
+TakesSource old new source (Ok texts) = IsUntouched old new × AreTextsOf old.files source texts × HasRead Scl source old new
+TakesSource old new source (Err stop) = StopsSource old new source stop
+
+-- the source or the schedule is refused by this
+abbrev pub IsRefusedBy : Option (List FileEntry) → SourceValue → Option (List ℕ) → Refusal → Type 0
+IsRefusedBy files source schedule refusal = reads files source (Err refusal) ⊎ ((records : Records) × reads files source (Ok records) × schedules files schedule (Err refusal))
+
+-- what stopped the taking of a source's texts and of the schedule's events
+abbrev pub StopsTaking : FolderState → FolderState → SourceValue → Option (List ℕ) → Stop → Type 0
+StopsTaking old new source schedule (Refused refusal) = IsUntouched old new × IsRefusedBy old.files source schedule refusal × HasReadTo (last_kind refusal) source schedule old new × IsNameless refusal
+StopsTaking old new source schedule (ReadFault kind) = IsUntouched old new × Rose old.read_faults new.read_faults × IsUnreadAt kind source schedule old new
+StopsTaking old new source schedule Memory = IsUntouched old new × (new.read_faults ≡ old.read_faults)
+
+-- the texts of the source and the events of the schedule, or what stopped their taking
+abbrev pub Takes : FolderState → FolderState → SourceValue → Option (List ℕ) → Result Taken Stop → Type 0
+Takes old new source schedule (Ok taken) = IsUntouched old new × AreTextsOf old.files source taken.inputs × schedules old.files schedule (Ok tt) × HasReadAll source schedule old new
+Takes old new source schedule (Err stop) = StopsTaking old new source schedule stop
 
 -- the text of the kind is too long, or has this first fault
 abbrev pub IsWrong : FileKind → List ℕ → Refusal → Type 0
@@ -58,7 +74,7 @@ LooksAt kind text (Err Memory) = Unit {0}
 
 -- what is first wrong with the texts, or want of memory
 abbrev pub StopsLooking : Texts → Stop → Type 0
-StopsLooking texts (Refused refusal) = reads_texts texts (Err refusal) × IsNameless refusal
+StopsLooking texts (Refused refusal) = reads_texts texts (Err refusal) × IsNameless refusal × IsOfSource (last_kind refusal)
 StopsLooking texts (ReadFault kind) = ⊥
 StopsLooking texts Memory = Unit {0}
 

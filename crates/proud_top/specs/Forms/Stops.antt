@@ -16,7 +16,9 @@ use Rattle.pad_reach.specs.declared.search.ReachError.{ReachError}
 use Rattle.pad_reach.specs.declared.search.ReachError.TheVariants as reach_error
 use Rattle.row_legal.specs.declared.fault.LegalError.{LegalError}
 use Rattle.row_legal.specs.declared.fault.LegalError.TheVariants as legal_error
-use Rattle.book_files.specs.declared.records.FileKind.TheVariants.{Scl}
+use Rattle.book_files.specs.declared.records.FileKind.{FileKind}
+use Rattle.book_files.specs.declared.records.FileKind.TheVariants.{Scl, Schedule}
+use Rattle.proud_top.specs.Order.{rank}
 use Rattle.proud_top.specs.declared.status.Refusal.{Refusal}
 use Rattle.proud_top.specs.declared.status.Refusal.TheVariants.{Design, Net, Unanchored, NoRoom}
 use Rattle.proud_top.specs.declared.status.Status.{Status}
@@ -55,10 +57,14 @@ pub record IsNameless (refusal : Refusal) : Type 0 where
   pub node : node_of refusal ≡ None
   pub point : point_of refusal ≡ None
 
+-- it stands at a file of a source, none of which is a schedule
+abbrev pub IsOfSource : FileKind → Type 0
+IsOfSource kind = rank kind < rank Schedule
+
 -- What stopped the reading of the files, and what of the folder has changed. No read fault was counted but at a fault.
 abbrev pub StopsReading : FolderState → FolderState → List ℕ → Stop → Type 0
-StopsReading old new word (Refused refusal) = IsUntouched old new × reads_design old.files word (Err refusal) × HasReadUpTo (last_kind refusal) word old new × IsNameless refusal
-StopsReading old new word (ReadFault kind) = IsUntouched old new × Rose old.read_faults new.read_faults × IfSome old.files (λ files. IsFaultAt files word kind old new)
+StopsReading old new word (Refused refusal) = IsUntouched old new × reads_design old.files word (Err refusal) × HasReadUpTo (last_kind refusal) word old new × IsNameless refusal × IsOfSource (last_kind refusal)
+StopsReading old new word (ReadFault kind) = IsUntouched old new × Rose old.read_faults new.read_faults × IfSome old.files (λ files. IsFaultAt files word kind old new) × IsOfSource kind
 StopsReading old new word Memory = IsUntouched old new × (new.read_faults ≡ old.read_faults)
 
 -- the texts of the design's files, or what stopped their reading

@@ -1,6 +1,6 @@
 use Rattle.std.proofs.Common.{ℕ, List, Result, Ok, Err}
 use Rattle.book_files.specs.declared.records.FileKind.{FileKind}
-use Rattle.book_files.specs.declared.records.FileKind.TheVariants.{Aux, Nodes, Nets, Wts, Pl, Scl}
+use Rattle.book_files.specs.declared.records.FileKind.TheVariants.{Aux, Nodes, Nets, Wts, Pl, Scl, Schedule}
 use Rattle.book_files.specs.declared.fault.TextFault.{TextFault}
 use Rattle.book_files.specs.declared.fault.ReadError.{ReadError}
 use Rattle.book_files.specs.declared.fault.ReadError.TheVariants as read_error
@@ -12,6 +12,8 @@ use Rattle.book_files.specs.NetRules.{nets_grammar}
 use Rattle.book_files.specs.WeightRules.{weights_grammar}
 use Rattle.book_files.specs.PlaceRules.{places_grammar}
 use Rattle.book_files.specs.RowRules.{rows_grammar}
+use Rattle.book_files.specs.ScheduleRules.{schedule_grammar}
+use Rattle.book_files.specs.declared.schedule.Event.{Event}
 use Rattle.proud_top.specs.declared.stop.Stop.{Stop}
 use Rattle.proud_top.specs.declared.stop.Stop.TheVariants.{ReadFault, Refused, Memory}
 use Rattle.proud_top.specs.Accepted.{IsReadable, IsFaultOf}
@@ -50,3 +52,6 @@ returns-in-Pl c = rw c.in-Pl.is (look_as Pl places_grammar (λ (file : List Plac
 
 pub returns-in-Scl : goal.returns-in-Scl
 returns-in-Scl c = rw c.in-Scl.is (look_as Scl rows_grammar (λ (file : List RowEntry). file) _ c.read_scl.result c.looked-in-Scl.result (λ fault h. h) (λ fault h. h) (λ records h. (records, h)) (c.one_answer.ensures.scl _) c.read_scl.ensures.reading (rw c.in-Scl.is at c.looked-in-Scl.ensures))
+
+pub returns-in-Schedule : goal.returns-in-Schedule
+returns-in-Schedule c = rw c.in-Schedule.is (look_as Schedule schedule_grammar (λ (events : List Event). events) _ c.read_schedule.result c.looked-in-Schedule.result (λ fault h. h) (λ fault h. h) (λ records h. (records, h)) (c.one_answer.ensures.schedule _) c.read_schedule.ensures.reading (rw c.in-Schedule.is at c.looked-in-Schedule.ensures))

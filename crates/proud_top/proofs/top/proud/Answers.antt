@@ -17,19 +17,19 @@ pub returns-clause-memory : goal.returns-clause-memory
 returns-clause-memory g c e = says_memory c.args.words.now _ _ _ _ c.run.result e c.run.ensures.says
 
 pub returns-clause-one_end : goal.returns-clause-one_end
-returns-clause-one_end g c files source levels a b h k =
+returns-clause-one_end g c files source schedule levels a b h k =
     let law = c.laws.ensures in
-    let one : OneAnswer = record { aux = law.aux; nodes = law.nodes; nets = law.nets; wts = law.wts; pl = law.pl; scl = law.scl; join = law.join; network = law.network; levels = law.levels; gap = law.gap; greedy = law.greedy } in
-    one_end one files source levels a b h k
+    let one : OneAnswer = record { aux = law.aux; nodes = law.nodes; nets = law.nets; wts = law.wts; pl = law.pl; scl = law.scl; schedule = law.schedule; join = law.join; network = law.network; levels = law.levels; gap = law.gap; greedy = law.greedy } in
+    one_end one files source schedule levels a b h k
 
 pub returns-clause-only_refused : goal.returns-clause-only_refused
 returns-clause-only_refused g c files refusal known cause calm =
     let law = c.laws.ensures in
-    let one : OneAnswer = record { aux = law.aux; nodes = law.nodes; nets = law.nets; wts = law.wts; pl = law.pl; scl = law.scl; join = law.join; network = law.network; levels = law.levels; gap = law.gap; greedy = law.greedy } in
+    let one : OneAnswer = record { aux = law.aux; nodes = law.nodes; nets = law.nets; wts = law.wts; pl = law.pl; scl = law.scl; schedule = law.schedule; join = law.join; network = law.network; levels = law.levels; gap = law.gap; greedy = law.greedy } in
     only_refused one c.one_request.ensures.one files c.args.words.now _ _ (g.S.Sink.state c.args.report.now) (g.S.Sink.state c.run.new.report) refusal c.run.result known cause calm c.run.ensures.says
 
 pub returns-clause-complete : goal.returns-clause-complete
 returns-clause-complete g c files known given calm still quiet =
     let law = c.laws.ensures in
-    let one : OneAnswer = record { aux = law.aux; nodes = law.nodes; nets = law.nets; wts = law.wts; pl = law.pl; scl = law.scl; join = law.join; network = law.network; levels = law.levels; gap = law.gap; greedy = law.greedy } in
+    let one : OneAnswer = record { aux = law.aux; nodes = law.nodes; nets = law.nets; wts = law.wts; pl = law.pl; scl = law.scl; schedule = law.schedule; join = law.join; network = law.network; levels = law.levels; gap = law.gap; greedy = law.greedy } in
     complete one c.one_request.ensures.one files c.args.words.now _ _ _ _ c.run.result known given calm still quiet c.run.ensures.says

@@ -19,7 +19,7 @@ take-requires g c = good_sides c.args.words.now (request_value c.in-Ok.request) 
 pub refuse-requires : goal.refuse-requires
 refuse-requires g c =
     let f = g.F.Folder.state c.args.folder.now in
-    covered_take f (g.F.Folder.state c.take.new.folder) (request_value c.in-Ok.request).source c.in-Err.stop c.in-Err.ensures
+    covered_take f (g.F.Folder.state c.take.new.folder) (request_value c.in-Ok.request).source (request_value c.in-Ok.request).schedule c.in-Err.stop c.in-Err.ensures
 
 pub returns-in-Err-clause-says : goal.returns-in-Err-clause-says
 returns-in-Err-clause-says g c =
@@ -27,7 +27,7 @@ returns-in-Err-clause-says g c =
     let f' = g.F.Folder.state c.take.new.folder in
     let request = request_value c.in-Ok.request in
     says_stop c.args.words.now f f' (g.S.Sink.state c.args.report.now) (g.S.Sink.state c.refuse.new.report) None c.in-Err.stop c.refuse.result
-    (untouched_at f f' request.source c.in-Err.stop c.in-Err.ensures)
+    (untouched_at f f' request.source request.schedule c.in-Err.stop c.in-Err.ensures)
     (due_take c.args.words.now request f f' c.in-Ok.ensures.asked c.in-Err.stop c.in-Err.ensures) c.refuse.ensures
 
 pub returns-in-Err-clause-misused : goal.returns-in-Err-clause-misused
@@ -55,7 +55,7 @@ returns-clause-says g c =
     let f = g.F.Folder.state c.args.folder.now in
     let f' = g.F.Folder.state c.take.new.folder in
     let request = request_value c.in-Ok.request in
-    says_stop c.args.words.now f f' (g.S.Sink.state c.args.report.now) (g.S.Sink.state c.refuse-in-Err-place.new.report) (Some c.in-Ok-take.inputs) c.in-Err-place.stop c.refuse-in-Err-place.result
+    says_stop c.args.words.now f f' (g.S.Sink.state c.args.report.now) (g.S.Sink.state c.refuse-in-Err-place.new.report) (Some c.in-Ok-take.taken.inputs) c.in-Err-place.stop c.refuse-in-Err-place.result
     c.in-Ok-take.ensures.0
     (due_place c.args.words.now request f f' _ c.in-Ok.ensures.asked c.in-Ok-take.ensures c.in-Err-place.stop c.in-Err-place.ensures) c.refuse-in-Err-place.ensures
 

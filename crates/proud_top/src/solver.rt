@@ -4,36 +4,44 @@ ghost use Rattle.std.specs.Prelude.{◌≡◌, ◌≤◌, length, IfOk};
 ghost use Rattle.pad_reach.specs.Reaches.{Reaches};
 ghost use Rattle.net_model.specs.Webs.{joints_of};
 ghost use Rattle.relax_crew.specs.Crew.{IsCrewSize};
+ghost use Rattle.level_run.specs.Levels.{IsLevels};
 ghost use Rattle.proud_top.specs.Solve.{AreSolved};
 ghost use Rattle.proud_top.specs.Forms.Over.{IsLastOver};
 
+use book_files::Events;
 use book_outer::Gate;
 use book_text::Memory;
-use level_run::{Levels, MOST_LEVELS, Options, levels, levels_enclose};
+use level_run::{Levels, MOST_LEVELS, Options, levels, levels_by, levels_enclose};
 use net_model::Network;
 use pad_reach::{Reach, reach_leads};
 use std::alloc::Global;
 use std::thread::Threads;
 
-/// The seats of a crew, what starts their threads, and the gate that is called.
+/// The seats that solve: of a crew, with what starts their threads and the gate that is called; or of the events of a schedule.
 #[derive(Drop)]
-pub(crate) struct Crew<'a, R, G> {
+pub(crate) struct Solver<'a, R, G> {
     rt: &'a R,
     gate: &'a G,
     seats: usize,
+    events: Option<&'a Events>,
     ghost size: { IsCrewSize seats },
 }
 
-impl<'a, R: Threads + Sync, G: Gate> Crew<'a, R, G> {
-    /// A crew of so many seats.
-    pub(crate) fn new(rt: &'a R, gate: &'a G, seats: usize) -> Self
+impl<'a, R: Threads + Sync, G: Gate> Solver<'a, R, G> {
+    /// So many seats, by these events where there are some.
+    pub(crate) fn new(rt: &'a R, gate: &'a G, seats: usize, events: Option<&'a Events>) -> Self
         requires { IsCrewSize seats }
         ensures { result.seats ≡ seats }
     {
-        Crew { rt, gate, seats }
+        Solver {
+            rt,
+            gate,
+            seats,
+            events,
+        }
     }
 
-    /// What starts its threads.
+    /// What starts threads.
     pub(crate) fn rt(&self) -> &R {
         self.rt
     }
@@ -55,10 +63,28 @@ impl<'a, R: Threads + Sync, G: Gate> Crew<'a, R, G> {
         reach_leads();
         let _reach = reach;
         let _points = network.points();
+        self.levels(alloc, network, reach, count)
+    }
+
+    /// The same, of which only is said that they are the levels.
+    fn levels(
+        &self,
+        alloc: Global,
+        network: &Network,
+        reach: &Reach,
+        count: u32,
+    ) -> Result<Levels, Memory>
+        requires reach { Reaches (joints_of network.now) reach.now }
+        requires few { count ≤ MOST_LEVELS }
+        ensures { IfOk result (IsLevels network.now count) }
+    {
         let options = Options {
             levels: count,
             seats: self.seats,
         };
-        levels(self.rt, alloc, network, reach, options, self.gate)
+        match self.events {
+            Some(events) => levels_by(alloc, network, reach, options, events.as_slice()),
+            None => levels(self.rt, alloc, network, reach, options, self.gate),
+        }
     }
 }

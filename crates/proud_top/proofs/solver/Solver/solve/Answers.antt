@@ -9,7 +9,7 @@ use Rattle.relax_system.specs.System.{IsValid}
 use Rattle.proud_top.specs.Solve.{AreSolved}
 use Rattle.proud_top.specs.Forms.Over.{IsLastOver}
 use Rattle.proud_top.proofs.Points.{last_over}
-use Rattle.proud_top.proofs.crew.Crew.solve.Goals as goal
+use Rattle.proud_top.proofs.solver.Solver.solve.Goals as goal
 
 -- what the law says of the levels
 by_law : (network : NetworkValue) (count : ℕ) (result : Result (List Level) Memory)
