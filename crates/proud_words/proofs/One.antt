@@ -25,13 +25,13 @@ one_source one None (Some word) (of_design a) b x y = absurd x
 one_source one None None a b x y = absurd x
 one_source one (Some design) (Some word) a b x y = absurd x
 
-same_request : (a b : RequestValue) → a.levels ≡ b.levels → a.seats ≡ b.seats → a.out ≡ b.out → a.source ≡ b.source → a ≡ b
-same_request a b l s o p = λ i. record { levels = l i; seats = s i; out = o i; source = p i }
+same_request : (a b : RequestValue) → a.levels ≡ b.levels → a.seats ≡ b.seats → a.out ≡ b.out → a.schedule ≡ b.schedule → a.source ≡ b.source → a ≡ b
+same_request a b l s o e p = λ i. record { levels = l i; seats = s i; out = o i; schedule = e i; source = p i }
 
 one_reading : OneGrid → (matches : List Row) (a b : RequestValue) → IsReading matches a → IsReading matches b → a ≡ b
 one_reading one matches a b x y =
     let source = one_source one _ _ a.source b.source x.source y.source in
-    same_request a b (x.levels ∙ sym y.levels) (x.seats ∙ sym y.seats) (x.out ∙ ap (λ (s : SourceValue). unwrap_or (first_of (codes "out") matches) (usual_out s)) source ∙ sym y.out) source
+    same_request a b (x.levels ∙ sym y.levels) (x.seats ∙ sym y.seats) (x.out ∙ ap (λ (s : SourceValue). unwrap_or (first_of (codes "out") matches) (usual_out s)) source ∙ sym y.out) (x.schedule ∙ sym y.schedule) source
 
 pub one_asked : OneGrid → (words : List (List ℕ)) (a b : RequestValue) → IsRequest words a → IsRequest words b → a ≡ b
 one_asked one words a b x y = one_reading one (matches_of proud_command words) a b x.reading y.reading

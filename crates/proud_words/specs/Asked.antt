@@ -1,5 +1,5 @@
 -- A request of the code, as the value that definitions speak of.
-use Rattle.std.specs.Prelude.{string_bytes}
+use Rattle.std.specs.Prelude.{option_map, string_bytes}
 use Rattle.proud_words.specs.declared.request.Request.{Request}
 use Rattle.proud_words.specs.declared.request.Source.{Source}
 use Rattle.proud_words.specs.declared.request.Source.TheVariants.{Design, Grid}
@@ -10,4 +10,4 @@ source_value (Design name) = of_design (string_bytes name)
 source_value (Grid grid) = of_grid grid
 
 abbrev pub request_value : Request → RequestValue
-request_value request = record { levels = request.levels; seats = request.seats; out = string_bytes request.out; source = source_value request.source }
+request_value request = record { levels = request.levels; seats = request.seats; out = string_bytes request.out; schedule = option_map string_bytes request.schedule; source = source_value request.source }

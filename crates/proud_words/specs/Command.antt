@@ -17,6 +17,10 @@ seats_rule = record (new_rule (codes "seats")) { long = Some (codes "seats"); pa
 abbrev pub out_rule : Rule
 out_rule = record (new_rule (codes "out")) { long = Some (codes "out") }
 
+-- `--schedule`, with the name of a schedule file
+abbrev pub schedule_rule : Rule
+schedule_rule = record (new_rule (codes "schedule")) { long = Some (codes "schedule") }
+
 -- `--grid`, with the word of a grid
 abbrev pub grid_rule : Rule
 grid_rule = record (new_rule (codes "grid")) { long = Some (codes "grid") }
@@ -26,4 +30,4 @@ abbrev pub design_rule : Rule
 design_rule = new_rule (codes "DESIGN")
 
 abbrev pub proud_command : App
-proud_command = with_rule (with_rule (with_rule (with_rule (with_rule (new_app (codes "proud")) levels_rule) seats_rule) out_rule) grid_rule) design_rule
+proud_command = with_rule (with_rule (with_rule (with_rule (with_rule (with_rule (new_app (codes "proud")) levels_rule) seats_rule) out_rule) schedule_rule) grid_rule) design_rule

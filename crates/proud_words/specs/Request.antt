@@ -12,11 +12,13 @@ pub data SourceValue : Type 0 where
   of_design : List ℕ → SourceValue
   of_grid : Grid → SourceValue
 
--- how often the regions are cut, how many seats solve a system, the name of the output file, and what is placed
+-- how often the regions are cut, how many seats solve a system, the name of the output file, that of a schedule file, where one is
+-- named, and what is placed
 pub record RequestValue : Type 0 where
   pub levels : ℕ
   pub seats : ℕ
   pub out : List ℕ
+  pub schedule : Option (List ℕ)
   pub source : SourceValue
 
 -- the number that a whole word writes
@@ -44,6 +46,7 @@ pub record IsReading (matches : List Row) (request : RequestValue) : Type 0 wher
   pub seats : request.seats ≡ unwrap_or (option_map number_of (first_of (codes "seats") matches)) USUAL_SEATS
   pub source : IsSource (first_of (codes "DESIGN") matches) (first_of (codes "grid") matches) request.source
   pub out : request.out ≡ unwrap_or (first_of (codes "out") matches) (usual_out request.source)
+  pub schedule : request.schedule ≡ first_of (codes "schedule") matches
 
 -- the command takes the words, of which the first is the program's name, and its matches say what is asked for
 pub record IsRequest (words : List (List ℕ)) (request : RequestValue) : Type 0 where

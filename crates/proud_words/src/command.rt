@@ -11,7 +11,7 @@ use level_run::MOST_LEVELS;
 use relax_crew::MOST_SEATS;
 use std::alloc::Global;
 
-/// The command `proud`, with its four options and its design.
+/// The command `proud`, with its five options and its design.
 pub(crate) fn proud_command<'a>(alloc: Global) -> Result<Command<'a>, Memory>
     ensures { IfOk result (λ command. app_of command ≡ proud_command) }
 {
@@ -22,12 +22,14 @@ pub(crate) fn proud_command<'a>(alloc: Global) -> Result<Command<'a>, Memory>
         .long("seats")
         .value_parser(ValueParser::unsigned(1, MOST_SEATS as u64));
     let out = Arg::new(alloc, "out").long("out");
+    let schedule = Arg::new(alloc, "schedule").long("schedule");
     let grid = Arg::new(alloc, "grid").long("grid");
     let design = Arg::new(alloc, "DESIGN");
     let command = Command::new(alloc, "proud")
         .arg(levels)?
         .arg(seats)?
         .arg(out)?
+        .arg(schedule)?
         .arg(grid)?
         .arg(design)?;
     Ok(command)

@@ -42,6 +42,8 @@ pub struct Request {
     pub seats: usize,
     /// The name of the output file.
     pub out: String,
+    /// The name of the file whose events solve in place of a crew, where one is named.
+    pub schedule: Option<String>,
     /// What is placed.
     pub source: Source,
 }
@@ -103,6 +105,7 @@ fn request_of(alloc: Global, matches: &ArgMatches<'_>) -> Result<Request, WordsF
         levels: levels_of(matches.get_str("levels")),
         seats: seats_of(matches.get_str("seats")),
         out: out_of(alloc, matches.get_str("out"), &source)?,
+        schedule: schedule_of(alloc, matches.get_str("schedule"))?,
         source,
     })
 }
@@ -154,6 +157,16 @@ fn out_of(alloc: Global, text: Option<&str>, source: &Source) -> Result<String, 
     match text {
         Some(name) => Ok(String::from_str(alloc, name)?),
         None => usual_out(alloc, source),
+    }
+}
+
+/// The name of the schedule file, where the option has a text.
+fn schedule_of(alloc: Global, text: Option<&str>) -> Result<Option<String>, Memory>
+    ensures { IfOk result (λ name. option_map string_bytes name ≡ text_in text.entry) }
+{
+    match text {
+        Some(name) => Ok(Some(String::from_str(alloc, name)?)),
+        None => Ok(None),
     }
 }
 

@@ -4,7 +4,7 @@ use Rattle.std.specs.Borrow.{Bor}
 use Rattle.clap.specs.Words.{Rule, new_rule, rule_of, with_rule}
 use Rattle.clap.specs.declared.builder.arg.Arg.{Arg}
 use Rattle.clap.specs.declared.builder.value_parser.ValueParser.{ValueParser}
-use Rattle.proud_words.specs.Command.{design_rule, grid_rule, levels_rule, out_rule, seats_rule}
+use Rattle.proud_words.specs.Command.{design_rule, grid_rule, levels_rule, out_rule, schedule_rule, seats_rule}
 use Rattle.proud_words.proofs.command.proud_command.Goals as goal
 
 -- an option with a number, from its id, its name and its parser
@@ -29,8 +29,9 @@ returns c =
     let levels_off = local c.new.result c.long.result c.value_parser-levels.result _ c.new.ensures.optional.1 c.long.ensures c.value_parser-levels.ensures.others in
     let seats_off = local c.new-2.result c.long-2.result c.value_parser-seats.result _ c.new-2.ensures.optional.1 c.long-2.ensures c.value_parser-seats.ensures.others in
     let out : rule_of c.long-out.result ≡ out_rule = search rules in
+    let schedule : rule_of c.long-schedule.result ≡ schedule_rule = search rules in
     let grid : rule_of c.long-grid.result ≡ grid_rule = search rules in
     let design : rule_of c.new-design.result ≡ design_rule = search rules in
-    c.in_ok-command.ensures.shape (search rules) ∙ ap₂ with_rule (c.in_ok-arg-4.ensures.shape (search rules)
-    ∙ ap₂ with_rule (c.in_ok-arg-3.ensures.shape (search rules) ∙ ap₂ with_rule (c.in_ok-arg-2.ensures.shape seats_off
-    ∙ ap₂ with_rule (c.in_ok-arg.ensures.shape levels_off ∙ ap₂ with_rule c.new-5.ensures.app levels) seats) out) grid) design
+    c.in_ok-command.ensures.shape (search rules) ∙ ap₂ with_rule (c.in_ok-arg-5.ensures.shape (search rules)
+    ∙ ap₂ with_rule (c.in_ok-arg-4.ensures.shape (search rules) ∙ ap₂ with_rule (c.in_ok-arg-3.ensures.shape (search rules) ∙ ap₂ with_rule (c.in_ok-arg-2.ensures.shape seats_off
+    ∙ ap₂ with_rule (c.in_ok-arg.ensures.shape levels_off ∙ ap₂ with_rule c.new-6.ensures.app levels) seats) out) schedule) grid) design

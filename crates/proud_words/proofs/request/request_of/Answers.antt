@@ -35,6 +35,7 @@ returns-clause-asked c =
     let levels = text_read found (codes "levels") c.get_str-3.result c.get_str-3.ensures in
     let seats = text_read found (codes "seats") c.get_str-4.result c.get_str-4.ensures in
     let out = text_read found (codes "out") c.get_str-5.result c.get_str-5.ensures in
+    let schedule = text_read found (codes "schedule") c.get_str-6.result c.get_str-6.ensures in
     let source = source_value c.in_ok-source.source in
     record {
       levels = c.levels_of.ensures.number ∙ ap (λ (o : Option (List ℕ)). unwrap_or (option_map number_of o) USUAL_LEVELS) levels;
@@ -42,4 +43,5 @@ returns-clause-asked c =
       source = subst (λ (o : Option (List ℕ)). IsSource o (first_of (codes "grid") rows) source) design
           (subst (λ (o : Option (List ℕ)). IsSource (text_in c.get_str.result) o source) grid c.in_ok-source.ensures.source);
       out = c.in_ok-out_of.ensures ∙ ap (λ (o : Option (List ℕ)). unwrap_or o (usual_out source)) out;
+      schedule = c.in_ok-schedule_of.ensures ∙ schedule;
     }
