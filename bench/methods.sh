@@ -1,6 +1,6 @@
 #!/usr/bin/env bash
 # What the ways of a crew cost: places designs, and grids without a cut, with one seat and with four, by hand from the ends of the
-# boxes alone, with coarse numbers first, and with marks besides, and with the proved program, which begins with coarse numbers.
+# boxes with sweeps alone, with coarse numbers first, and with marks besides, and with the proved program, which does as the last.
 # It compares byte for byte what they print and place, and prints the relaxations of all seats and the medians of RUNS runs, by
 # default three, in milliseconds. Usage: bench/methods.sh [--runs RUNS] [AUX | SIDE ..], by default the designs of designs/ and grids
 # of 32 and of 60 cells a side.
@@ -31,9 +31,9 @@ for given in "$@"; do
     for seats in 1 4; do
         rm -f "$work"/*.seconds
         for _ in $(seq "$runs"); do
-            run sweeps "$by_hand" --tell --seats "$seats" --shift 0 "${words[@]}"
-            run coarse "$by_hand" --tell --seats "$seats" "${words[@]}"
-            run marks "$by_hand" --tell --seats "$seats" --passes 64 "${words[@]}"
+            run sweeps "$by_hand" --tell --seats "$seats" --shift 0 --passes 0 "${words[@]}"
+            run coarse "$by_hand" --tell --seats "$seats" --passes 0 "${words[@]}"
+            run marks "$by_hand" --tell --seats "$seats" "${words[@]}"
             run proved "$program" --seats "$seats" "${words[@]}"
             same proved sweeps
             same proved coarse
@@ -43,7 +43,7 @@ for given in "$@"; do
         for name in sweeps coarse marks; do
             line="$line $name $(median $name 1) ms, $(relaxations $name) relaxations;"
         done
-        a=$(median proved 1) b=$(median coarse 1)
+        a=$(median proved 1) b=$(median marks 1)
         echo "$line proved $a ms, ratio $(ratio "$a" "$b")"
     done
 done

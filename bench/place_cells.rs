@@ -6,7 +6,7 @@
 //! and prints how much there is of what, how far the lower and the upper coordinates stand apart at most in any level, and the
 //! wire length. Without `--seats` it solves by plain sweeps; with it, by a crew of that many threads on shared words: with
 //! `--shift K` it begins with K halvings (by default 20), and with `--passes P` a seat makes at most P passes over its marks (by
-//! default none). With `--tell`, standard error gets the sweeps, or the relaxations of each seat.
+//! default 64). With `--tell`, standard error gets the sweeps, or the relaxations of each seat.
 //!
 //! `place_cells --steps [--times N] [--levels N] (DESIGN | --grid R,C,K)` times each step once, and the wire length N times, by
 //! default once, as `crates/step_bench` does: see `steps.rs`.
@@ -98,7 +98,7 @@ fn words() -> Option<Asked> {
             seats: None,
             method: Method {
                 shift: 20,
-                passes: 0,
+                passes: 64,
             },
             tell: false,
         },
