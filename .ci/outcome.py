@@ -15,7 +15,7 @@ TOP = os.path.dirname(os.path.dirname(os.path.abspath(__file__)))
 OLD_USAGE = b"usage: proud [--levels N] [--seats N] DESIGN\n"
 WHOLE = "(?:0|[1-9][0-9]*)"
 # What stands for a word in capitals. Any other is a whole number.
-WORDS = {"KIND": "(?:aux|nodes|nets|wts|pl|scl)", "LINE": "[1-9][0-9]*", "NAME": "[^ \t\r\n]+",
+WORDS = {"KIND": "(?:aux|nodes|nets|wts|pl|scl|schedule)", "LINE": "[1-9][0-9]*", "NAME": "[^ \t\r\n]+",
          "D": WHOLE + r"(?:\.[0-9]{0,5}[1-9])?"}
 
 Files = Dict[str, Union[bytes, str]]

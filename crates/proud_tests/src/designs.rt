@@ -227,7 +227,7 @@ pub(crate) const MIDDLE_REPORT: &[u8] =
 
 /// The line for words of another form.
 pub(crate) const USAGE: &[u8] =
-    b"usage: proud [--levels N] [--seats N] [--out FILE] (DESIGN | --grid R,C,K)\n";
+    b"usage: proud [--levels N] [--seats N] [--out FILE] [--schedule FILE] (DESIGN | --grid R,C,K)\n";
 
 /// A run without a word behind the program's name.
 pub(crate) const NO_WORDS: Case = Case {
