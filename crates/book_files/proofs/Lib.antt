@@ -7,6 +7,8 @@ pub mod AuxDecides
 pub mod NodeDecides
 pub mod WeightDecides
 pub mod PlaceDecides
+pub mod ScheduleDecides
+pub mod ScheduleSteps
 pub mod PlaceLines
 pub mod PlacementText
 pub mod Pieces

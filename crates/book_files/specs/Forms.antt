@@ -7,6 +7,7 @@ pub mod Nets
 pub mod Weights
 pub mod Places
 pub mod Rows
+pub mod Schedule
 pub mod Progress
 pub mod SoFar
 pub mod NetsSoFar

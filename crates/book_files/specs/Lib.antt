@@ -16,6 +16,8 @@ pub mod Places
 pub mod PlaceRules
 pub mod Rows
 pub mod RowRules
+pub mod Schedule
+pub mod ScheduleRules
 pub mod Ranges
 pub mod PlaceText
 pub mod Loading

@@ -8,6 +8,7 @@ ghost use Rattle.book_files.specs.NetRules.{nets_grammar};
 ghost use Rattle.book_files.specs.WeightRules.{weights_grammar};
 ghost use Rattle.book_files.specs.PlaceRules.{places_grammar};
 ghost use Rattle.book_files.specs.RowRules.{rows_grammar};
+ghost use Rattle.book_files.specs.ScheduleRules.{schedule_grammar};
 
 /// Each text reads as records or has a first fault, never both, with one value.
 pub fn one_answer()
@@ -17,4 +18,5 @@ pub fn one_answer()
     ensures wts { (text : List ℕ) → HasOneAnswer weights_grammar text }
     ensures pl { (text : List ℕ) → HasOneAnswer places_grammar text }
     ensures scl { (text : List ℕ) → HasOneAnswer rows_grammar text }
+    ensures schedule { (text : List ℕ) → HasOneAnswer schedule_grammar text }
 {}

@@ -1,4 +1,4 @@
-//! The Bookshelf files: whole texts to records, or exactly their first fault.
+//! The Bookshelf files, and schedules: whole texts to records, or exactly their first fault.
 //!
 //! It stands on the lines, words and numbers of texts, and below the joined design. What comes in
 //! is a file's bytes; what goes out are its records, which keep slices of the bytes, or the first
@@ -23,6 +23,7 @@ mod records;
 mod row_block;
 mod row_lines;
 mod rows;
+mod schedule;
 mod text;
 mod walk;
 mod weights;
@@ -41,5 +42,6 @@ pub use records::{
     AuxFile, FileKind, NetBlock, NodeLine, PinLine, PlaceLine, RowBlock, SubrowLine, WeightLine,
 };
 pub use rows::{RowFile, Subrows, read_scl};
+pub use schedule::{Event, Events, MOST_NUMBER, read_schedule};
 pub use text::{placement_reads_back, write_pl};
 pub use weights::{WeightFile, read_wts};

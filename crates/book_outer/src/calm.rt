@@ -76,7 +76,7 @@ impl Folder for CalmFolder {
         ensures missed { self.new.missed ≡ self.old.missed }
         ensures counted { self.new.reads ≡ one_more self.old.reads }
     {
-        self.store.read(buf, false)
+        self.store.read(buf, usize::MAX, false)
     }
 
     fn create(&mut self, name: &str) -> Result<(), Trouble>

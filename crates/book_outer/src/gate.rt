@@ -1,4 +1,4 @@
-/// A watcher of a crew's first sweep. The seats of a crew share it.
+/// A watcher of the first sweep of each solve of a crew. The seats of a crew share it.
 pub trait Gate: Sync {
     /// Called after a seat's relaxation of a point. It returns, and changes no answer.
     fn pass(&self, seat: usize, point: usize);

@@ -26,10 +26,28 @@ pub struct HostFolder<R: Files> {
     reads: u64,
     read_faults: u64,
     write_faults: u64,
+    standard: Standard<R::File>,
+}
+
+/// Files that hold nothing, open for reading for as long as the folder lives. A file that is opened takes the least descriptor
+/// that is free: where the process was started with standard streams closed, a file of the folder would take the descriptor of
+/// standard output, and the report would go into it. These three take what is free of the three descriptors of the standard
+/// streams before any file of the folder does, and a write of the report to one of them fails, as it should.
+#[derive(Drop)]
+struct Standard<F> {
+    first: Option<F>,
+    second: Option<F>,
+    third: Option<F>,
+}
+
+// A file that holds nothing. Where it can't be opened, the folder works without it.
+fn open_empty<R: Files>(rt: &R) -> Option<R::File> {
+    fs::open(rt, "/dev/null").ok()
 }
 
 impl<R: Files + Drop> HostFolder<R> {
-    /// No file is open. It takes no memory.
+    /// No file of the folder is open. It holds the descriptors of the standard streams where these are free, so that no file
+    /// takes one. It takes no memory.
     pub fn new(rt: R) -> HostFolder<R>
         ensures reading { (⟦<HostFolder<R> as Folder>⟧.state result).reading ≡ None }
         ensures writing { (⟦<HostFolder<R> as Folder>⟧.state result).writing ≡ None }
@@ -38,6 +56,11 @@ impl<R: Files + Drop> HostFolder<R> {
         ensures read_faults { (⟦<HostFolder<R> as Folder>⟧.state result).read_faults ≡ 0 }
         ensures write_faults { (⟦<HostFolder<R> as Folder>⟧.state result).write_faults ≡ 0 }
     {
+        let standard = Standard {
+            first: open_empty(&rt),
+            second: open_empty(&rt),
+            third: open_empty(&rt),
+        };
         HostFolder {
             rt,
             reading: None,
@@ -46,6 +69,7 @@ impl<R: Files + Drop> HostFolder<R> {
             reads: 0,
             read_faults: 0,
             write_faults: 0,
+            standard,
         }
     }
 }

@@ -2,9 +2,10 @@
 //!
 //! Everything above is written over the traits `Folder`, `Sink` and `Gate`, so that its contracts can say what is read and
 //! written. The state of a folder is its files, where they are known, the file being read and the one being written, and five
-//! counts that never fall. `MemFolder` and `MemSink` hold their bytes, and fail at the calls of given numbers. `CalmFolder`
-//! and `CalmSink` hold theirs too, and fail only at an absent name. `HostFolder` and `StdSink` are the trusted edge over the
-//! real folder and standard output, and nothing of their content is known.
+//! counts that never fall. `MemFolder` and `MemSink` hold their bytes, count their calls, and fail at the calls of given
+//! numbers; a slow `MemFolder` gives few bytes a read. `CalmFolder` and `CalmSink` hold theirs too, and fail only at an absent
+//! name. `HostFolder` and `StdSink` are the trusted edge over the real folder and standard output, and nothing of their content
+//! is known.
 //!
 //! It stands above the words and numbers of texts, and below the readers of files. The contract: an answer Failed raises a count
 //! of faults by exactly one, and no other answer changes it.

@@ -1,8 +1,9 @@
 //! What the folders and the sinks in memory share: files with one that is read and one that is written, and bytes.
 
-ghost use Rattle.std.specs.Prelude.{◌≡◌, ℕ, ◌<◌, ◌↔◌, length, Some, None, Ok, Err, IsTrue, IsSome, IsErrOf, is_some, not, ◌&&◌, option_copied, if◌then◌else◌, IsOk, IsOkUnless, OnErr, MatchBool, drop, max, ◌+◌, ◌≤◌};
+ghost use Rattle.std.specs.Prelude.{◌≡◌, ℕ, ◌<◌, ◌↔◌, length, Some, None, Ok, Err, IsTrue, IsSome, IsErrOf, is_some, not, ◌&&◌, option_copied, if◌then◌else◌, IsOkUnless, OnErr, MatchBool, drop, min, max, ◌+◌, ◌≤◌};
 ghost use Rattle.book_outer.specs.Cause.{one_more};
 ghost use Rattle.book_outer.specs.Files.{content};
+ghost use Rattle.book_outer.specs.Memory.{given};
 ghost use Rattle.book_outer.specs.Sink.{Gets};
 ghost use Rattle.book_outer.specs.Folder.{Begins, Reads, Creates, Puts, missed_after, TakesFront};
 
@@ -94,11 +95,17 @@ impl Store {
         Ok(())
     }
 
-    /// Reads the next bytes of the file that was begun, unless the call is to fail.
-    pub(crate) fn read(&mut self, buf: &mut [u8], fails: bool) -> Result<usize, Trouble>
+    /// Reads the next bytes of the file that was begun, and at most so many, unless the call is to fail.
+    pub(crate) fn read(
+        &mut self,
+        buf: &mut [u8],
+        most: usize,
+        fails: bool,
+    ) -> Result<usize, Trouble>
         requires room { 0 < length buf.old }
+        requires some { 1 ≤ most }
         requires begun { IsSome self.old.reading }
-        ensures answer { MatchBool fails (result ≡ Err Trouble.Failed) (IsOk result) }
+        ensures answer { MatchBool fails (result ≡ Err Trouble.Failed) (result ≡ Ok (given most self.old.files self.old.reading buf.old)) }
         ensures reads { Reads (Some self.old.files) self.old.reading buf.old buf.new result self.new.reading }
         ensures files { self.new.files ≡ self.old.files }
         ensures writing { self.new.writing ≡ self.old.writing }
@@ -112,7 +119,7 @@ impl Store {
             return Err(Trouble::Failed);
         }
         let open = self.reading.unwrap();
-        let n = copy_behind(self.files.bytes(open.file), open.at, buf);
+        let n = copy_behind(self.files.bytes(open.file), open.at, buf, most);
         self.reading = Some(Open {
             file: open.file,
             at: open.at + n,
@@ -169,15 +176,17 @@ pub(crate) fn append(written: &mut Vec<u8>, bytes: &[u8], fails: bool) -> Result
     Ok(())
 }
 
-// Copies to the buffer's front what stands from a byte on, as far as it has room, and says how much.
-fn copy_behind(bytes: &[u8], at: usize, buf: &mut [u8]) -> usize
-    requires { 0 < length buf.old }
+// Copies to the buffer's front what stands from a byte on, as far as it has room and at most so much, and says how much.
+fn copy_behind(bytes: &[u8], at: usize, buf: &mut [u8], most: usize) -> usize
+    requires room { 0 < length buf.old }
+    requires some { 1 ≤ most }
+    ensures count { result ≡ min most (min (length buf.old) (length (drop at bytes.now))) }
     ensures front { TakesFront (drop at bytes.now) buf.old buf.new result }
     ensures room { result ≤ length buf.old }
     ensures sum { at + result ≤ max at (length bytes.now) }
 {
     let rest = &bytes[at.min(bytes.len())..];
-    let n = rest.len().min(buf.len());
+    let n = rest.len().min(buf.len()).min(most);
     buf[..n].copy_from_slice(&rest[..n]);
     n
 }

@@ -4,8 +4,8 @@ mod nets;
 mod rows;
 
 use book_files::{
-    FileKind, NodeLine, Orient, PlaceLine, ReadError, TextFault, TextKind, WeightLine, read_aux,
-    read_nets, read_nodes, read_pl, read_scl, read_wts,
+    Event, FileKind, NodeLine, Orient, PlaceLine, ReadError, TextFault, TextKind, WeightLine,
+    read_aux, read_nets, read_nodes, read_pl, read_schedule, read_scl, read_wts,
 };
 use book_text::Micro;
 use std::alloc::{AllocError, Global};
@@ -28,6 +28,7 @@ fn fault_in(alloc: Global, kind: FileKind, text: &[u8]) -> Option<TextFault> {
         FileKind::Wts => fault_of(read_wts(alloc, text)),
         FileKind::Pl => fault_of(read_pl(alloc, text)),
         FileKind::Scl => fault_of(read_scl(alloc, text)),
+        FileKind::Schedule => fault_of(read_schedule(alloc, text)),
     }
 }
 
@@ -400,8 +401,60 @@ const FAULTY_AUX: [Faulty; 16] = [
     ),
 ];
 
+const SCHEDULES: &[(&[u8], &[Event])] = &[
+    (
+        b"load 1 1\nrenew 0 1\n",
+        &[
+            Event::Load { seat: 1, point: 1 },
+            Event::Renew { seat: 0, point: 1 },
+        ],
+    ),
+    (
+        b"\r\n# by hand\r\nLOAD 4294967295 0\r\n\r\n\tReNew\t7  4294967295\r\n  #renew 1 1\r\nload 007 00",
+        &[
+            Event::Load {
+                seat: 4_294_967_295,
+                point: 0,
+            },
+            Event::Renew {
+                seat: 7,
+                point: 4_294_967_295,
+            },
+            Event::Load { seat: 7, point: 0 },
+        ],
+    ),
+    (b"", &[]),
+    (b"\n# nothing\n", &[]),
+];
+
+#[test]
+fn schedules_are_read(rt: HostRuntime) {
+    for (text, events) in SCHEDULES {
+        let found = read_schedule(rt.alloc(), text).expect(&rt, "a schedule");
+        assert!(rt; found.as_slice() == *events, "{text:?}");
+    }
+}
+
+const FAULTY_SCHEDULE: [Faulty; 15] = [
+    (b"load 1", 1, TextKind::BadLine),
+    (b"load 1 2 3", 1, TextKind::BadLine),
+    (b"load x 1", 1, TextKind::BadLine),
+    (b"load 1 x", 1, TextKind::BadLine),
+    (b"load 1 4294967296", 1, TextKind::BadLine),
+    (b"renew 4294967296 1", 1, TextKind::BadLine),
+    (b"renew 1 18446744073709551616", 1, TextKind::BadLine),
+    (b"store 1 1", 1, TextKind::BadLine),
+    (b"loads 1 1", 1, TextKind::BadLine),
+    (b"load -1 0", 1, TextKind::BadLine),
+    (b"load 1.0 0", 1, TextKind::BadLine),
+    (b"load : 1 0", 1, TextKind::BadLine),
+    (b"UCLA schedule 1.0\n", 1, TextKind::BadLine),
+    (b"load 1 1\nrenew 0\nload\n", 2, TextKind::BadLine),
+    (b"# by hand\n\nrenew 0 1 # twice\n", 3, TextKind::BadLine),
+];
+
 /// The texts of each kind of file that have a fault.
-const FAULTY: [(FileKind, &[Faulty]); 8] = [
+const FAULTY: [(FileKind, &[Faulty]); 9] = [
     (FileKind::Aux, &FAULTY_AUX),
     (FileKind::Nodes, &FAULTY_NODES),
     (FileKind::Nets, &nets::FAULTY_STARTS),
@@ -410,6 +463,7 @@ const FAULTY: [(FileKind, &[Faulty]); 8] = [
     (FileKind::Wts, &FAULTY_WEIGHTS),
     (FileKind::Pl, &FAULTY_PLACES),
     (FileKind::Scl, &rows::FAULTY_ROWS),
+    (FileKind::Schedule, &FAULTY_SCHEDULE),
 ];
 
 #[test]

@@ -7,6 +7,8 @@ use Rattle.book_files.specs.declared.aux.AuxSoFar.{AuxSoFar}
 use Rattle.book_files.specs.declared.nodes.NodesSoFar.{NodesSoFar}
 use Rattle.book_files.specs.declared.weights.WeightsSoFar.{WeightsSoFar}
 use Rattle.book_files.specs.declared.places.PlacesSoFar.{PlacesSoFar}
+use Rattle.book_files.specs.declared.schedule.Event.{Event}
+use Rattle.book_files.specs.declared.schedule.EventsSoFar.{EventsSoFar}
 use Rattle.book_files.specs.Words.{latest}
 use Rattle.book_files.specs.Entries.{AuxEntry, aux_entry, node_entries, weight_entries, place_entries}
 use Rattle.book_files.specs.Nodes.{NodeItem, total_in, terminals_in, node_in}
@@ -42,3 +44,7 @@ pub record IsWeightsSoFar (items : List WeightItem) (so_far : WeightsSoFar) : Ty
 pub record IsPlacesSoFar (items : List PlaceItem) (so_far : PlacesSoFar) : Type 0 where
   pub begun : so_far.begun ≡ has_items items
   pub lines : place_entries so_far.lines.items ≡ filter_map place_in items
+
+-- the events are the items
+abbrev pub AreEventsSoFar : List Event → EventsSoFar → Type 0
+AreEventsSoFar items so_far = items ≡ so_far.events.items

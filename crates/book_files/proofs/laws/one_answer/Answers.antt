@@ -17,6 +17,9 @@ use Rattle.book_files.specs.Forms.Nets.{net_form}
 use Rattle.book_files.specs.NetRules.{nets_grammar}
 use Rattle.book_files.proofs.NetDecides.{nets_decided}
 use Rattle.book_files.proofs.RowDecides.{rows_decided}
+use Rattle.book_files.specs.Forms.Schedule.{event_form}
+use Rattle.book_files.specs.ScheduleRules.{schedule_grammar}
+use Rattle.book_files.proofs.ScheduleDecides.{schedule_decided}
 use Rattle.book_files.proofs.laws.one_answer.Goals as goal
 
 pub returns-clause-aux : goal.returns-clause-aux
@@ -36,3 +39,6 @@ returns-clause-pl c = one_answer_of place_form places_grammar places_decided
 
 pub returns-clause-scl : goal.returns-clause-scl
 returns-clause-scl c = one_answer_of row_form rows_grammar rows_decided
+
+pub returns-clause-schedule : goal.returns-clause-schedule
+returns-clause-schedule c = one_answer_of event_form schedule_grammar schedule_decided
