@@ -16,6 +16,7 @@ mod grids;
 mod levels;
 #[cfg(test)]
 mod limits;
+mod schedules;
 #[cfg(test)]
 mod seats;
 #[cfg(test)]
