@@ -16,6 +16,7 @@ mod grids;
 mod levels;
 #[cfg(test)]
 mod limits;
+#[cfg(test)]
 mod schedules;
 #[cfg(test)]
 mod seats;
