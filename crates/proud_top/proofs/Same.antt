@@ -8,7 +8,7 @@ use Rattle.proud_words.specs.Request.{RequestValue, SourceValue, IsRequest}
 use Rattle.proud_top.specs.declared.status.Refusal.{Refusal}
 use Rattle.proud_top.specs.Flow.{PlacedValue, places}
 use Rattle.proud_top.specs.Statuses.{IsDone}
-use Rattle.proud_top.specs.Alike.{AreSameButSeats, AreAlike}
+use Rattle.proud_top.specs.Alike.{AskForTheSame, AreAlike}
 use Rattle.proud_top.proofs.Once.{OneAnswer}
 use Rattle.proud_top.proofs.OneEnd.{one_end}
 
@@ -51,7 +51,7 @@ same_files : (a b : Option (List FileEntry)) (name name' text text' : List ℕ) 
 same_files a b name name' text text' e f g =
     ap (λ (o : Option (List FileEntry)). with_file o name text) e ∙ ap (λ (n : List ℕ). with_file b n text) f ∙ ap (λ (t : List ℕ). with_file b name' t) g
 
-pub same_placement : OneAnswer → OneRequest → (words words' : List (List ℕ)) (files : List FileEntry) (folder folder' other other' : FolderState) (report report' sink sink' : SinkState) → AreSameButSeats words words'
+pub same_placement : OneAnswer → OneRequest → (words words' : List (List ℕ)) (files : List FileEntry) (folder folder' other other' : FolderState) (report report' sink sink' : SinkState) → AskForTheSame words words'
     → folder.files ≡ Some files → other.files ≡ Some files → IsDone words folder folder' report report' → IsDone words' other other' sink sink' → AreAlike folder' other' report report' sink sink'
 same_placement one ask words words' files folder folder' other other' report report' sink sink' same known known' h k =
     let mine : h.due.request ≡ same.request = ask words h.due.request same.request h.due.asked same.asked in

@@ -5,7 +5,7 @@ use Rattle.book_outer.specs.State.{FolderState, SinkState}
 use Rattle.proud_words.specs.Request.{RequestValue, IsRequest}
 
 -- both words ask for the same placement: they differ at most in the number of seats and in the schedule
-pub record AreSameButSeats (words words' : List (List ℕ)) : Type 0 where
+pub record AskForTheSame (words words' : List (List ℕ)) : Type 0 where
   pub request : RequestValue
   pub request' : RequestValue
   pub asked : IsRequest words request

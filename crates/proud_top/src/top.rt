@@ -25,12 +25,12 @@ use std::thread::Threads;
 ///
 /// Behind the program's name the words are those of `USAGE_LINE`, in the forms of `clap`: the name of a design's aux file, or
 /// `--grid R,C,K` for a design of R rows and C columns of cells, 1 to 64 each, with weights that the number K gives; and, where
-/// they are asked for, a number of levels, a number of seats, and the output file's name. 4 levels and 4 seats are usual. The usual
+/// they are asked for, a number of levels, a number of seats, the output file's name, and a schedule, whose events solve in place of a crew. 4 levels and 4 seats are usual. The usual
 /// output file has the design's name without a final `.aux`, followed by `.proud.pl`, or is `grid.proud.pl`; it may be one of those
 /// that were read. It is made only when all is read and placed, and gets a line `NAME X Y : ORIENT` for each node. The report then
 /// gets `cells M terminals T nets N pins P`, `levels L gap G` and `wire D`, or, where the words, a file or the design is at fault, one
-/// line that says so. Both don't depend on the number of seats (`one_placement`). The gate is called in the first sweep of each
-/// crew.
+/// line that says so. Both don't depend on the number of seats or on the schedule (`one_placement`). The gate is called in the first sweep of
+/// each solve of a crew.
 pub fn proud<R: Threads + Sync, F: Folder, S: Sink, G: Gate>(
     rt: &R,
     alloc: Global,
