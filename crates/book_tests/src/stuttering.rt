@@ -156,14 +156,14 @@ impl Files for Stuttering {
     }
 }
 
-/// A read's answer, the number of the last read, and how many share it: this test, the folder, and a file that is open. A
-/// file is opened anew where the one before was closed.
+/// A read's answer, the number of the last read, and how many share it: this test, the folder, the three files that it holds, and
+/// one that is open. A file is opened anew where the one before was closed.
 const READS: &[(Result<usize, Trouble>, u8, usize)] = &[
-    (Ok(2), 1, 3),
-    (Ok(2), 3, 3),
-    (Err(Trouble::Failed), 4, 2),
-    (Err(Trouble::Memory), 5, 2),
-    (Ok(0), 6, 3),
+    (Ok(2), 1, 6),
+    (Ok(2), 3, 6),
+    (Err(Trouble::Failed), 4, 5),
+    (Err(Trouble::Memory), 5, 5),
+    (Ok(0), 6, 6),
 ];
 
 #[test]
@@ -183,9 +183,9 @@ fn reads_are_tried_again_until_a_fault(rt: HostRuntime) -> Result<(), Fail> {
 
 /// What is put into a file in pieces of three bytes. One that answers an error is closed.
 const PUTS: &[(&[u8], Result<(), Trouble>, u8, usize)] = &[
-    (b"six of", Ok(()), 3, 3),
-    (b"six", Err(Trouble::Failed), 4, 2),
-    (b"six", Err(Trouble::Memory), 5, 2),
+    (b"six of", Ok(()), 3, 6),
+    (b"six", Err(Trouble::Failed), 4, 5),
+    (b"six", Err(Trouble::Memory), 5, 5),
 ];
 
 #[test]
