@@ -98,6 +98,20 @@ pub(crate) const USUAL: Texts = Texts {
         SubrowOrigin : 0\tNumSites : 20\nEnd\n",
 };
 
+/// Two cells of two widths beside a macro that takes the middle of both rows, and a net with a weight.
+pub(crate) const TWO_ROWS: Texts = Texts {
+    aux: b"RowBasedPlacement : a.nodes a.nets a.wts a.pl a.scl\n",
+    nodes: b"UCLA nodes 1.0\nNumNodes : 5\nNumTerminals : 3\n\
+        a 2 10\nb 3 10\nm 4 20 terminal\nl 0 0 terminal\nr 0 0 terminal\n",
+    nets: b"UCLA nets 1.0\nNumNets : 3\nNumPins : 7\nNetDegree : 2 n0\nl B\na B\n\
+        NetDegree : 3 n1\na B\nm B : -2 0\nb B\nNetDegree : 2 n2\nb B\nr B\n",
+    wts: b"UCLA wts 1.0\nn2 3\n",
+    pl: b"UCLA pl 1.0\nm 8 0 : N /FIXED\nl 0 5 : N /FIXED\nr 20 15 : N /FIXED\n",
+    scl: b"UCLA scl 1.0\nNumRows : 2\nCoreRow Horizontal\n Coordinate : 0\n Height : 10\n \
+        Sitewidth : 1\n SubrowOrigin : 0 NumSites : 20\nEnd\nCoreRow Horizontal\n Coordinate : 10\n \
+        Height : 10\n Sitewidth : 1\n SubrowOrigin : 0 NumSites : 20\nEnd\n",
+};
+
 /// One cell between two terminals, where the aux file names the weights.
 pub(crate) const WEIGHTED: Texts = Texts {
     aux: b"RowBasedPlacement : a.nodes a.nets a.wts a.pl a.scl\n",
@@ -165,6 +179,9 @@ pub(crate) struct Case<'a> {
     pub(crate) report: &'static [u8],
 }
 
+/// The output file of a run on the design in the folder itself.
+pub(crate) const OUTPUT: &str = "a.proud.pl";
+
 /// The words of a run on the design in the folder itself.
 pub(crate) const A: &[&str] = &["proud", "a.aux"];
 
@@ -209,14 +226,19 @@ pub(crate) fn assert_case<R: Threads + Abort + Sync>(
     let status = proud(rt, alloc, &words, &mut folder, &mut report, &OpenGate);
     assert_eq!(rt; status, case.status);
     assert!(rt; report.written() == case.report, "{status:?}");
-    assert!(rt; folder.file("a.proud.pl") == case.file);
-    assert!(rt; folder.file("a.aux") == Some(case.texts.aux));
-    assert!(rt; folder.file("a.nodes") == Some(case.texts.nodes));
-    assert!(rt; folder.file("a.nets") == Some(case.texts.nets));
-    assert!(rt; folder.file("a.wts") == Some(case.texts.wts));
-    assert!(rt; folder.file("a.pl") == Some(case.texts.pl));
-    assert!(rt; folder.file("a.scl") == Some(case.texts.scl));
+    assert!(rt; folder.file(OUTPUT) == case.file);
+    assert_kept(rt, &folder, case.texts);
     Ok(())
+}
+
+/// Asserts that the files of the design are as they were.
+pub(crate) fn assert_kept<R: Abort>(rt: &R, folder: &MemFolder, texts: Texts<'_>) {
+    assert!(rt; folder.file("a.aux") == Some(texts.aux));
+    assert!(rt; folder.file("a.nodes") == Some(texts.nodes));
+    assert!(rt; folder.file("a.nets") == Some(texts.nets));
+    assert!(rt; folder.file("a.wts") == Some(texts.wts));
+    assert!(rt; folder.file("a.pl") == Some(texts.pl));
+    assert!(rt; folder.file("a.scl") == Some(texts.scl));
 }
 
 /// The placement of one cell between two terminals, and its report.

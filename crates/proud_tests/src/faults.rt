@@ -109,7 +109,7 @@ fn faults_of_texts_are_named(rt: HostRuntime) -> Result<(), Fail> {
 /// Texts whose first fault is that of the files together, and the line that tells it.
 type FaultyDesign = (Texts<'static>, DesignFault, &'static [u8]);
 
-const FAULTY_DESIGNS: [FaultyDesign; 11] = [
+const FAULTY_DESIGNS: [FaultyDesign; 10] = [
     (
         Texts {
             nodes: b"UCLA nodes 1.0\nNumNodes : 4\nNumTerminals : 2\n\
@@ -149,15 +149,6 @@ const FAULTY_DESIGNS: [FaultyDesign; 11] = [
         },
         DesignFault::NoPosition { node: 1 },
         b"proud: node l: no position\n",
-    ),
-    (
-        Texts {
-            scl: b"UCLA scl 1.0\nNumRows : 1\nCoreRow Horizontal\n Coordinate : 0\n Height : 10\n \
-                Sitewidth : 1\n Sitespacing : 1\n SubrowOrigin : 0 NumSites : 0\nEnd\n",
-            ..ONE_CELL
-        },
-        DesignFault::NoRows,
-        b"proud: no rows\n",
     ),
     (
         Texts {

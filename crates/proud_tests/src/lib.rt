@@ -5,9 +5,13 @@
 #![tactic(auto)]
 
 #[cfg(test)]
+mod bad_files;
+#[cfg(test)]
 mod designs;
 #[cfg(test)]
 mod exit;
+#[cfg(test)]
+mod failing;
 #[cfg(test)]
 mod faults;
 #[cfg(test)]
@@ -20,6 +24,8 @@ mod limits;
 mod schedules;
 #[cfg(test)]
 mod seats;
+#[cfg(test)]
+mod standing;
 #[cfg(test)]
 mod statuses;
 #[cfg(test)]

@@ -20,6 +20,9 @@ fn limits_are_those_of_the_rules(rt: HostRuntime) {
     assert_eq!(rt; relax_system::MOST_POINTS, 2_097_152);
     assert_eq!(rt; relax_system::MOST_COORDINATE, 2_000_000_000_000);
     assert_eq!(rt; relax_system::MOST_WEIGHT, 1 << 40);
+    assert_eq!(rt; relax_system::MOST_SHIFT, 20);
+    assert_eq!(rt; relax_table::MARKS, 64);
+    assert_eq!(rt; relax_table::MOST_PASSES, 64);
     assert_eq!(rt; relax_crew::MOST_SEATS, 64);
     assert_eq!(rt; level_run::MOST_LEVELS, 12);
     assert_eq!(rt; proud_words::USUAL_LEVELS, 4);

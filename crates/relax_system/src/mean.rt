@@ -48,6 +48,17 @@ pub(crate) fn narrow_quotient(side: Side, sum: u64, total: u64) -> u64
     }
 }
 
+/// The same of a sum that is at least `low` times the total. Only what it has above that is divided: where boxes stand far from 0
+/// that is a short number though the sum is a long one, and a short number takes less time to divide.
+#[inline(always)]
+pub(crate) fn quotient_above(side: Side, low: u64, sum: u64, total: u64) -> u64
+    requires positive { 1 ≤ total }
+    requires above { total * low ≤ sum }
+    ensures { result ≡ rounded side sum total }
+{
+    low + narrow_quotient(side, sum - total * low, total)
+}
+
 /// The same of a sum in 128 bits.
 #[inline(always)]
 pub(crate) fn wide_quotient(side: Side, sum: u128, total: u64) -> u64

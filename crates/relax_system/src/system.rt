@@ -6,7 +6,7 @@ ghost use Rattle.relax_system.specs.Means.{InBoxes, IsPreFixed, IsPostFixed, flo
 ghost use Rattle.relax_system.specs.Forms.Narrow.{IsNarrow, IsNarrowPoint};
 ghost use Rattle.relax_system.specs.Sides.{mean_of, IsQuiet};
 
-use crate::mean::{narrow_pull, narrow_quotient, wide_pull, wide_quotient};
+use crate::mean::{narrow_pull, quotient_above, wide_pull, wide_quotient};
 use crate::points::{Point, Points};
 use crate::side::Side;
 use std::marker::Model;
@@ -99,7 +99,8 @@ impl System {
         let near = point.near.as_slice();
         let total = point.total_weight();
         if self.is_narrow() {
-            narrow_quotient(side, narrow_pull(near, point.anchored as u64, v), total)
+            let pull = narrow_pull(near, point.anchored as u64, v);
+            quotient_above(side, point.lo, pull, total)
         } else {
             wide_quotient(side, wide_pull(near, point.anchored, v), total)
         }
