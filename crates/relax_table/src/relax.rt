@@ -27,9 +27,9 @@ pub struct Relaxed {
 }
 
 impl<'a, D: Direction> SideTable<'a, D> {
-    /// One load of the word of a point.
+    /// One load of the word of a point. The answer is the word found, and the seat's entry `i`.
     #[inline(always)]
-    pub(crate) fn load<L: Ledger>(
+    pub fn load<L: Ledger>(
         &self,
         seat: &mut SideSeat<D>,
         i: usize,
@@ -54,7 +54,7 @@ impl<'a, D: Direction> SideTable<'a, D> {
 
     /// One fetch on the word of a point, of the mean of what the seat has seen.
     #[inline(always)]
-    pub(crate) fn renew<L: Ledger>(
+    pub fn renew<L: Ledger>(
         &self,
         seat: &mut SideSeat<D>,
         i: usize,
@@ -69,8 +69,7 @@ impl<'a, D: Direction> SideTable<'a, D> {
         ensures counts { (seat.new.loads ≡ seat.old.loads) × (seat.new.fetches ≡ seat.old.fetches + 1) × (seat.new.moves ≡ seat.old.moves + one_if (is_past D.side result.old result.new)) }
         ensures points { (seat.new.looked ≡ seat.old.looked) × (seat.new.renewed ≡ seat.old.renewed ++ i ∷ []) × (seat.new.parts ≡ seat.old.parts) × (seat.new.takes ≡ seat.old.takes) }
         ensures idle { seat.new.idle ≡ seat.old.idle }
-        ensures found { Before D.side (slice_index seat.old.seen i) result.old }
-        ensures word_found { result.old ≡ seat.new.found }
+        ensures found { (result.old ≡ seat.new.found) × Before D.side (slice_index seat.old.seen i) result.old }
         ensures quiet { Before D.side (mean_of D.side self.now.system i seat.new.seen) (slice_index seat.new.seen i) }
         ensures steps { steps.new ≡ steps.old + 1 }
     {

@@ -28,7 +28,7 @@ returns-clause-moved g c =
     let inside : c.args.i < length c.seat.inside.seen.items = omega (arith, ap (λ (l : List ℕ). length l) seen) in
     let before : c.index-before.result.now ≡ slice_index mid.seen c.args.i = get_or_read c.seat.inside.seen.items _ _ inside c.index-before.ensures 0 ∙ ap (λ (l : List ℕ). slice_index l c.args.i) seen in
     let on : Before g.D.Direction.side (slice_index mid.seen c.args.i) c.renew-fetch.result.new =
-    rw c.renew-fetch.ensures.word (Before_trans g.D.Direction.side _ _ _ c.renew-fetch.ensures.found (further-first g.D.Direction.side c.renew-fetch.result.old (mean_of g.D.Direction.side c.args.self.now.system c.args.i mid.seen))) in
+    rw c.renew-fetch.ensures.word (Before_trans g.D.Direction.side _ _ _ c.renew-fetch.ensures.found.1 (further-first g.D.Direction.side c.renew-fetch.result.old (mean_of g.D.Direction.side c.args.self.now.system c.args.i mid.seen))) in
     rw c.either-moved.ensures (relaxed_went g.D.Direction.side c.args.seat.now mid c.renew-fetch.new.seat c.args.i c.renew-fetch.result.new c.index-before.result.now c.look_around-looked.result c.differs.result c.know.ensures c.look_around-looked.ensures.advances
     c.renew-fetch.ensures.advances there c.renew-fetch.ensures.seen on before c.look_around-looked.ensures.moved c.differs.ensures)
 
