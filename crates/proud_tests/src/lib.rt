@@ -21,6 +21,8 @@ mod levels;
 #[cfg(test)]
 mod limits;
 #[cfg(test)]
+mod reads;
+#[cfg(test)]
 mod schedules;
 #[cfg(test)]
 mod seats;
