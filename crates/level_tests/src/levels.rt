@@ -3,8 +3,9 @@
 use crate::cuts::{Row, are};
 use crate::designs::{Texts, made};
 use area_cut::whole;
+use book_files::Event;
 use book_outer::OpenGate;
-use level_run::{Axis, Levels, MOST_LEVELS, Options, Solve, gap, levels, project};
+use level_run::{Axis, Levels, MOST_LEVELS, Options, Solve, gap, levels, levels_by, project};
 use pad_reach::reach;
 use relax_crew::MOST_SEATS;
 use relax_system::Near;
@@ -312,6 +313,26 @@ fn are_levels(rt: &impl Abort, levels: &Levels, case: &Case) {
     assert_eq!(rt; gap(levels), *widest);
 }
 
+/// Schedules: without events; of one seat; of outdated means; and of seats and points that aren't there.
+const SCHEDULES: &[&[Event]] = &[
+    &[],
+    &[
+        Event::Renew { seat: 0, point: 0 },
+        Event::Load { seat: 0, point: 1 },
+        Event::Renew { seat: 0, point: 1 },
+    ],
+    &[
+        Event::Renew { seat: 1, point: 1 },
+        Event::Renew { seat: 6, point: 0 },
+        Event::Load { seat: 1, point: 0 },
+        Event::Renew { seat: 1, point: 1 },
+    ],
+    &[
+        Event::Load { seat: 7, point: 0 },
+        Event::Renew { seat: 0, point: 4_294_967_295 },
+    ],
+];
+
 #[test]
 fn designs_have_levels(rt: HostRuntime) -> Result<(), Fail> {
     for case in CASES {
@@ -325,6 +346,10 @@ fn designs_have_levels(rt: HostRuntime) -> Result<(), Fail> {
             };
             let levels = levels(&rt, rt.alloc(), &network, &reach, options, &OpenGate)?;
             are_levels(&rt, &levels, case);
+            for events in SCHEDULES {
+                let levels = levels_by(rt.alloc(), &network, &reach, options, events)?;
+                are_levels(&rt, &levels, case);
+            }
         }
     }
     Ok(())
