@@ -75,8 +75,9 @@ def play(design: str, schedule: str, seats: int) -> Tuple[int, List[int]]:
     """How many points the design's x axis has, and the raises of each seat."""
     run = subprocess.run([BENCH, design, "0", "1", schedule, str(seats)], stdout=subprocess.PIPE, stderr=subprocess.DEVNULL,
                          check=True, text=True)
-    told = dict(line.split(" ", 1) for line in run.stdout.splitlines())
-    return int(told["reach"].split()[0]), [int(word) for word in told["raises"].split()]
+    told = [line.split() for line in run.stdout.splitlines()]
+    points = next(int(words[1]) for words in told if words[0] == "reach")
+    return points, [int(words[1]) for words in told if words[0] == "raises"]
 
 
 def report(design: str, seats: int, events: int, seed: int) -> None:

@@ -34,7 +34,7 @@ pub fn measure_levels(
     areas: &[u64],
     cells: &Cells,
     cuts: u32,
-) -> Answer<()>
+) -> Answer<Systems>
     requires chains { HasChains network.now }
     requires all { length areas.now ≡ length network.now.points }
     requires fits { sum areas.now < 2 ^ 64 }
@@ -60,10 +60,10 @@ pub fn measure_levels(
     };
     let systems = Systems { x, y };
     watch.end("project", &systems)?;
-    if systems.x.points() == 0 {
-        return Ok(());
+    if systems.x.points() != 0 {
+        settle::<Brand>(alloc, watch, &systems.x, Blank::new(1))?;
     }
-    settle::<Brand>(alloc, watch, &systems.x, Blank::new(1))
+    Ok(systems)
 }
 
 /// The core with all points, cut so often.

@@ -1,7 +1,8 @@
 //! Times each step of the whole command once, on a design's files.
 //!
-//! `step_bench DESIGN [CUTS [TIMES]]` loads the design of that aux file, cuts its core CUTS times, by default 4, and once more,
-//! and measures its wire length TIMES times, by default once. Where cells stand is what the placement file says, so that nothing
+//! `step_bench DESIGN [CUTS [TIMES [SCHEDULE [SEATS]]]]` loads the design of that aux file, cuts its core CUTS times, by default 4,
+//! and once more, and measures its wire length TIMES times, by default once. Where a file of events is named, it is played, too, by
+//! SEATS seats, by default 4, and a line `raises N` for each seat tells how many of its renewals changed a word. Where cells stand is what the placement file says, so that nothing
 //! is solved but one side of one axis. Standard error gets a line `STEP MICROSECONDS us` for each step; standard output a line
 //! `STEP COUNT SUM` with how many there are of what it made, and a sum over all of it (`src/made.rt`).
 #![tactic(auto)]
@@ -12,6 +13,7 @@ mod levels;
 mod made;
 mod placement;
 mod rows;
+mod schedule;
 mod sums;
 mod texts;
 mod watch;
@@ -21,16 +23,18 @@ use crate::joined::joined;
 use crate::levels::measure_levels;
 use crate::made::Points;
 use crate::rows::measure_rows;
+use crate::schedule::measure_schedule;
 use crate::texts::load_texts;
 use crate::watch::{Answer, NO_MEMORY, Watch};
 use net_model::network;
 use pad_reach::reach;
+use relax_world::MOST_WORLD_SEATS;
 use std::env;
 use std::process::ExitCode;
 use std::thread::Threads;
 
 /// What a run with other words ends with.
-const USAGE: &str = "usage: step_bench DESIGN [CUTS [TIMES]]";
+const USAGE: &str = "usage: step_bench DESIGN [CUTS [TIMES [SCHEDULE [SEATS]]]]";
 
 /// What the words ask for.
 #[derive(Drop)]
@@ -41,6 +45,10 @@ struct Asked {
     cuts: u32,
     /// How often the wire length is measured.
     times: u32,
+    /// The name of a schedule.
+    schedule: Option<String>,
+    /// How many seats play it.
+    seats: u32,
 }
 
 fn main(rt: HostRuntime) -> ExitCode {
@@ -73,7 +81,13 @@ fn run<R: Threads + Sync>(threads: &R, rt: &HostRuntime) -> Answer<()> {
     let Ok(cells) = cells_as_placed(alloc, &design) else {
         return Err(NO_MEMORY);
     };
-    measure_levels(alloc, &mut watch, &network, &areas, &cells, asked.cuts)?;
+    let systems = measure_levels(alloc, &mut watch, &network, &areas, &cells, asked.cuts)?;
+    if let Some(name) = &asked.schedule {
+        if asked.seats < 1 || asked.seats > MOST_WORLD_SEATS {
+            return Err(USAGE);
+        }
+        measure_schedule(rt, &mut watch, &systems.x, name.as_str(), asked.seats)?;
+    }
     measure_rows(
         threads,
         alloc,
@@ -98,6 +112,8 @@ fn words_of(rt: &HostRuntime) -> Answer<Asked> {
         design,
         cuts: number_of(words.next(), 4)?,
         times: number_of(words.next(), 1)?,
+        schedule: words.next(),
+        seats: number_of(words.next(), 4)?,
     })
 }
 

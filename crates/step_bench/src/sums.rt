@@ -5,10 +5,11 @@ use crate::made::{Made, Told};
 use crate::texts::Texts;
 use area_cut::Regions;
 use book_design::Design;
-use book_files::{NetFile, NodeFile, PlaceFile, RowFile, WeightFile};
+use book_files::{Event, Events, NetFile, NodeFile, PlaceFile, RowFile, WeightFile};
 use net_model::Network;
 use relax_system::System;
 use relax_table::FloorSeat;
+use relax_world::Played;
 use row_legal::Sites;
 use row_space::Segments;
 use wire_report::Corner;
@@ -41,6 +42,32 @@ impl Made for NodeFile<'_> {
             told.add_size(node.width.0);
             told.add_size(node.height.0);
             told.add(u64::from(node.fixed));
+        }
+        told
+    }
+}
+
+impl Made for Events {
+    fn told(&self) -> Told {
+        let mut told = Told::new(self.as_slice().len());
+        for event in self.as_slice() {
+            let (kind, seat, point) = match event {
+                Event::Load { seat, point } => (0, *seat, *point),
+                Event::Renew { seat, point } => (1, *seat, *point),
+            };
+            told.add(kind);
+            told.add(u64::from(seat));
+            told.add(u64::from(point));
+        }
+        told
+    }
+}
+
+impl Made for Played {
+    fn told(&self) -> Told {
+        let mut told = Told::new(self.values.as_slice().len());
+        for value in self.values.as_slice() {
+            told.add(*value);
         }
         told
     }

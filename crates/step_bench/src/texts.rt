@@ -31,6 +31,15 @@ pub fn load_texts(rt: &HostRuntime, design: &str) -> Answer<Texts> {
     }
 }
 
+/// Loads a file by its name as it stands.
+pub fn load_text(rt: &HostRuntime, name: &str) -> Answer<Vec<u8>> {
+    let files: Result<_, _> = rt.clone();
+    match files {
+        Ok(files) => text(rt.alloc(), &mut HostFolder::new(files), name),
+        Err(_) => Err(NO_MEMORY),
+    }
+}
+
 fn gather<F: Folder>(alloc: Global, folder: &mut F, design: &str) -> Answer<Texts> {
     let aux = text(alloc, folder, design)?;
     let Ok(names) = read_aux(alloc, &aux) else {

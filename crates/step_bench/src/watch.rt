@@ -45,6 +45,14 @@ impl<'a> Watch<'a> {
         }
     }
 
+    /// Prints a number that a step made.
+    pub fn tell(&self, what: &str, number: u64) -> Answer<()> {
+        match println!(self.rt; "{what} {number}") {
+            Ok(()) => Ok(()),
+            Err(_) => Err("the output fails"),
+        }
+    }
+
     fn print<T: Made>(&self, step: &str, made: &T) -> io::Result<()> {
         let microseconds = self.begun.elapsed(self.rt)?.as_micros();
         eprintln!(self.rt; "{step} {microseconds} us")?;
