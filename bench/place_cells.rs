@@ -8,8 +8,9 @@
 //! `--shift K` it begins with K halvings (by default 20), and with `--passes P` a seat makes at most P passes over its marks (by
 //! default 64). With `--tell`, standard error gets the sweeps, or the relaxations of each seat.
 //!
-//! `place_cells --steps [--times N] [--levels N] (DESIGN | --grid R,C,K)` times each step once, and the wire length N times, by
-//! default once, as `crates/step_bench` does: see `steps.rs`.
+//! `place_cells --steps [--times N] [--levels N] [--schedule FILE [--seats N]] (DESIGN | --grid R,C,K)` times each step once, and
+//! the wire length N times, by default once, as `crates/step_bench` does: see `steps.rs`. With `--schedule` a file of events is
+//! played, too.
 //!
 //! The points lie in flat arrays, sums are in `u64` where all of a design fit, and coordinates count from the core's lower
 //! end. The scripts beside it build it and run it beside the proved program.
@@ -23,6 +24,7 @@ mod placement;
 mod projection;
 mod readers;
 mod regions;
+mod schedule;
 mod segments;
 mod solving;
 mod steps;
@@ -47,6 +49,7 @@ struct Asked {
     way: Way,
     steps: bool,
     times: u32,
+    schedule: Option<String>,
     out: Option<String>,
     design: Option<String>,
     grid: Option<String>,
@@ -104,6 +107,7 @@ fn words() -> Option<Asked> {
         },
         steps: false,
         times: 1,
+        schedule: None,
         out: None,
         design: None,
         grid: None,
@@ -122,6 +126,7 @@ fn words() -> Option<Asked> {
                 asked.way.method.passes = passes.filter(|passes| *passes <= 64)?;
             }
             "--times" => asked.times = words.next()?.parse().ok()?,
+            "--schedule" => asked.schedule = Some(words.next()?),
             "--out" => asked.out = Some(words.next()?),
             "--grid" => asked.grid = Some(words.next()?),
             "--levels" => {
@@ -168,7 +173,13 @@ fn main() -> ExitCode {
         return usage();
     };
     if asked.steps {
-        return steps::run(asked.way.levels, asked.times, || texts_of(&asked));
+        let schedule = asked.schedule.as_ref().map(|name| {
+            (
+                fs::read(name).expect("a schedule"),
+                asked.way.seats.unwrap_or(4),
+            )
+        });
+        return steps::run(asked.way.levels, asked.times, schedule, || texts_of(&asked));
     }
     let Some((texts, usual)) = texts_of(&asked) else {
         return usage();

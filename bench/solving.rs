@@ -1,6 +1,7 @@
 //! The least and the greatest vector by hand in plain Rust: by plain sweeps, and by a crew of seats on shared words.
 
 use crate::projection::{Axis, Projection, Sum};
+use crate::schedule::Event;
 use std::sync::atomic::{AtomicU64, Ordering::SeqCst};
 use std::thread;
 
@@ -191,6 +192,30 @@ impl<S: Sum> System<'_, S> {
         (seen, work)
     }
 
+    /// The same vector by a schedule: the events in order on shared words, each by its seat, and then the first seat settles all
+    /// points. With it how often each seat moved a word.
+    pub fn play<const UP: bool>(&self, seats: usize, events: &[Event]) -> (Vec<u64>, Vec<u64>) {
+        let start = self.start::<UP>();
+        let words = words_of(start);
+        let mut views = vec![start.to_vec(); seats];
+        let mut works = vec![Work::default(); seats];
+        for event in events {
+            let (seat, point) = (event.seat as usize, event.point as usize);
+            if seat < seats && point < words.len() {
+                let view = &mut views[seat];
+                if event.renews {
+                    // SAFETY: the point is there, and words and view have one entry per point.
+                    unsafe { self.renew::<UP>(&words, view, point, &mut works[seat]) };
+                } else {
+                    view[point] = words[point].load(SeqCst);
+                }
+            }
+        }
+        while self.relax::<UP>(&words, &mut views[0], (0, words.len()), &mut works[0]) {}
+        let moves = works.iter().map(|work| work.moves).collect();
+        (views.swap_remove(0), moves)
+    }
+
     /// What one seat does: it relaxes its range once, chases the marks of its range, settles its range, and settles all points.
     fn take_turn<const UP: bool>(
         &self,
@@ -267,8 +292,7 @@ impl<S: Sum> System<'_, S> {
         moved
     }
 
-    /// A relaxation loads the words of the neighbours into the seat's view, and then renews the point's word by the mean of
-    /// what was seen: a load first, and a fetch only where the mean stands past the word.
+    /// A relaxation loads the words of the neighbours into the seat's view, and then renews the point's word.
     ///
     /// # Safety
     /// `i` is a point, and words and view have one entry per point.
@@ -290,6 +314,28 @@ impl<S: Sum> System<'_, S> {
                 moved.seen |= word != *seen.get_unchecked(other);
                 *seen.get_unchecked_mut(other) = word;
             }
+            let renewed = self.renew::<UP>(words, seen, i, work);
+            moved.seen |= renewed.seen;
+            moved.word = renewed.word;
+        }
+        moved
+    }
+
+    /// Renews a point's word by the mean of what was seen: a load first, and a fetch only where the mean stands past the word.
+    ///
+    /// # Safety
+    /// `i` is a point, and words and view have one entry per point.
+    #[inline(always)]
+    unsafe fn renew<const UP: bool>(
+        &self,
+        words: &[AtomicU64],
+        seen: &mut [u64],
+        i: usize,
+        work: &mut Work,
+    ) -> Moved {
+        let mut moved = Moved::default();
+        // SAFETY: words and view have one entry per point, and `i` is a point.
+        unsafe {
             let mean = self.mean::<UP>(i, seen);
             let word = words.get_unchecked(i);
             let mut new = word.load(SeqCst);
@@ -303,7 +349,7 @@ impl<S: Sum> System<'_, S> {
                 new = if moved.word { mean } else { old };
                 work.moves += u64::from(moved.word);
             }
-            moved.seen |= new != *seen.get_unchecked(i);
+            moved.seen = new != *seen.get_unchecked(i);
             *seen.get_unchecked_mut(i) = new;
         }
         moved

@@ -13,6 +13,7 @@ use crate::placement::{corners, placement_text};
 use crate::projection::{Projection, Sum, project};
 use crate::readers::{read_nets, read_nodes, read_pl, read_scl};
 use crate::regions::Regions;
+use crate::schedule::read_schedule;
 use crate::segments::segments;
 use crate::solving::System;
 use crate::threads;
@@ -40,8 +41,16 @@ fn size(number: i64) -> u64 {
     number.unsigned_abs()
 }
 
-/// Times the steps, with so many cuts, and with so many wire lengths.
-pub fn run(cuts: u32, times: u32, load: impl FnOnce() -> Option<(Texts, String)>) -> ExitCode {
+/// The text of a schedule, and how many seats play it.
+type Schedule = Option<(Vec<u8>, usize)>;
+
+/// Times the steps, with so many cuts, and with so many wire lengths; and the play of a schedule, where there is one.
+pub fn run(
+    cuts: u32,
+    times: u32,
+    schedule: Schedule,
+    load: impl FnOnce() -> Option<(Texts, String)>,
+) -> ExitCode {
     let Some((texts, _)) = timed("load", load) else {
         return crate::usage();
     };
@@ -63,7 +72,7 @@ pub fn run(cuts: u32, times: u32, load: impl FnOnce() -> Option<(Texts, String)>
         return failed("a cell reaches no pad");
     }
     tell("reach", network.nodes.len(), []);
-    levels(&design, &network, cuts);
+    levels(&design, &network, cuts, schedule);
     rows(&design, &network, times)
 }
 
@@ -162,7 +171,7 @@ fn lows(design: &Design) -> [u64; 2] {
     design.core.map(|(low, _)| (low + SHIFT) as u64)
 }
 
-fn levels(design: &Design, network: &Network, cuts: u32) {
+fn levels(design: &Design, network: &Network, cuts: u32, schedule: Schedule) {
     let (mids, tops) = (mids(design), tops(design));
     let regions = timed("cuts", || {
         let whole = Regions::whole(network.nodes.len(), tops);
@@ -172,9 +181,9 @@ fn levels(design: &Design, network: &Network, cuts: u32) {
     let parts = timed("cut", || regions.cut(&network.areas, &mids));
     tell_regions("cut", &parts, lows(design));
     if fits_narrow(network, tops) {
-        settle::<u64>(design, network, &regions, &mids);
+        settle::<u64>(design, network, &regions, &mids, schedule);
     } else {
-        settle::<u128>(design, network, &regions, &mids);
+        settle::<u128>(design, network, &regions, &mids, schedule);
     }
 }
 
@@ -189,7 +198,13 @@ fn tell_regions(step: &str, regions: &Regions, lows: [u64; 2]) {
     tell(step, regions.list.len(), told);
 }
 
-fn settle<S: Sum>(design: &Design, network: &Network, regions: &Regions, mids: &[Vec<u64>; 2]) {
+fn settle<S: Sum>(
+    design: &Design,
+    network: &Network,
+    regions: &Regions,
+    mids: &[Vec<u64>; 2],
+    schedule: Schedule,
+) {
     let lows = lows(design);
     let projection = timed("project", || project::<S>(network, regions, mids));
     let told = [0, 1].into_iter().flat_map(|axis| {
@@ -211,6 +226,25 @@ fn settle<S: Sum>(design: &Design, network: &Network, regions: &Regions, mids: &
         work.moves as usize,
         seen.iter().map(|entry| entry + lows[0]),
     );
+    if let Some((text, seats)) = schedule {
+        play(&system, &text, seats, lows[0]);
+    }
+}
+
+/// Reads a schedule and plays it from below.
+fn play<S: Sum>(system: &System<S>, text: &[u8], seats: usize, low: u64) {
+    let events = timed("read schedule", || read_schedule(text).expect("events"));
+    let told = events.iter();
+    let told = told.flat_map(|event| {
+        let numbers = [event.seat, event.point].map(u64::from);
+        [u64::from(event.renews)].into_iter().chain(numbers)
+    });
+    tell("read schedule", events.len(), told);
+    let (seen, moves) = timed("play", || system.play::<true>(seats, &events));
+    tell("play", seen.len(), seen.iter().map(|entry| entry + low));
+    for moves in moves {
+        println!("raises {moves}");
+    }
 }
 
 /// How many neighbours a point has, the weight of its constants, and their sum with the weights.
