@@ -40,16 +40,23 @@ impl<'a, R: Threads + Sync, G: Gate> Crew<'a, R, G> {
         Crew { rt, gate, seats }
     }
 
-}
 
-impl<'a, R: Threads + Sync, G: Gate> Solver for Crew<'a, R, G> {
-    fn solve(&self, alloc: Global, system: &System) -> Result<Solve, Memory> {
+    /// What the trait asks of it.
+    fn solve_together(&self, alloc: Global, system: &System) -> Result<Solve, Memory>
+        ensures { IfOk result (IsSolve system.now) }
+    {
         if system.points() == 0 {
             return Ok(empty(alloc));
         }
         let lo = least(self.rt, alloc, system, self.seats, self.gate)?;
         let hi = greatest(self.rt, alloc, system, self.seats, self.gate)?;
         solve_of(alloc, system, lo.seat.seen(), hi.seat.seen())
+    }
+}
+
+impl<'a, R: Threads + Sync, G: Gate> Solver for Crew<'a, R, G> {
+    fn solve(&self, alloc: Global, system: &System) -> Result<Solve, Memory> {
+        self.solve_together(alloc, system)
     }
 }
 

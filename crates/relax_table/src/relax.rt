@@ -29,12 +29,7 @@ pub struct Relaxed {
 impl<'a, D: Direction> SideTable<'a, D> {
     /// One load of the word of a point. The answer is the word found, and the seat's entry `i`.
     #[inline(always)]
-    pub fn load<L: Ledger>(
-        &self,
-        seat: &mut SideSeat<D>,
-        i: usize,
-        steps: &mut Steps<L>,
-    ) -> u64
+    pub fn load<L: Ledger>(&self, seat: &mut SideSeat<D>, i: usize, steps: &mut Steps<L>) -> u64
         requires own { IsSeatOf self.now seat.old }
         requires point { i < length self.now.system }
         ensures own { IsSeatOf self.now seat.new }
