@@ -74,7 +74,10 @@ void *realloc(void *old, size_t size) {
 
 
 class Case(NamedTuple):
-    """A run: a design of designs/, the words before its name, and a change of one of its files: its ending, and a text for another."""
+    """A run: a design of designs/, the words before its name, and a change of one of its files: its ending, and a text for another.
+
+    Where the words ask for a grid, that is placed, and the design's files lie there unread.
+    """
 
     design: str
     words: Tuple[str, ...] = ()
@@ -86,6 +89,7 @@ CASES: Dict[str, Case] = {
     "one cell, four seats": Case("one_cell", ("--seats", "4")),
     "weights and a macro, one seat": Case("macro_block", ("--seats", "1")),
     "weights and a macro, four seats": Case("macro_block", ("--seats", "4")),
+    "a grid, one seat": Case("one_cell", ("--seats", "1", "--grid", "2,2,1")),
     "other words": Case("one_cell", ("--seats", "0")),
     "a bad line": Case("one_cell", (), (".nodes", b"a 2 10\n", b"a 2\n")),
     "a cell that is too tall": Case("one_cell", (), (".nodes", b"a 2 10\n", b"a 2 11\n")),
@@ -93,6 +97,7 @@ CASES: Dict[str, Case] = {
                                                               b"a B\na B\nNetDegree : 2 n1\na B\na B\n")),
     "a cell without room": Case("one_cell", ("--seats", "1"), (".scl", b"NumSites : 10\n", b"NumSites : 1\n")),
     "an absent file": Case("one_cell", (), (".aux", b"a.pl", b"b.pl")),
+    "an output file in no folder": Case("one_cell", ("--seats", "1", "--out", "/dev/null/a.pl")),
 }
 
 
@@ -114,7 +119,8 @@ class Bench:
         shutil.copytree(os.path.join(TOP, "designs", case.design), self.folder)
         aux = next(name for name in os.listdir(self.folder) if name.endswith(".aux"))
         self.output = aux[:-len("aux")] + "proud.pl"
-        self.words = [program, *case.words, os.path.join(self.folder, aux)]
+        source = ["--out", os.path.join(self.folder, self.output)] if "--grid" in case.words else [os.path.join(self.folder, aux)]
+        self.words = [program, *case.words, *source]
         if case.change is not None:
             ending, old, new = case.change
             path = os.path.join(self.folder, next(name for name in os.listdir(self.folder) if name.endswith(ending)))
@@ -187,6 +193,9 @@ def try_all(name: str, bench: Bench, first: int, step: int, ends: float) -> int:
     statuses: Counter[Optional[int]] = Counter()
     fell_short, number, left = 0, first, "cut off by the time"
     began, requests = time.monotonic(), bench.requests()
+    if not requests:
+        print(f"{name}: no request for memory was seen")
+        return 1
     while time.monotonic() < ends:
         tried = bench.tried(number)
         found = bench.shortfalls(tried)
