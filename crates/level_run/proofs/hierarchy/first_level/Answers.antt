@@ -18,7 +18,7 @@ same_region : (a b c d n p q r s m : ℕ) → a ≡ p → b ≡ q → c ≡ r �
 same_region a b c d n p q r s m e f g h i = ap (λ (x : ℕ). region_by x b c d n) e ∙ ap (λ (x : ℕ). region_by p x c d n) f ∙ ap (λ (x : ℕ). region_by p q x d n) g ∙ ap (λ (x : ℕ). region_by p q r x n) h ∙ ap (region_by p q r s) i
 
 pub solved-requires-clause-shares : goal.solved-requires-clause-shares
-solved-requires-clause-shares g c = λ κs lives.
+solved-requires-clause-shares g c =
     let network = c.args.network.now in
     let core = c.core-core.ensures.core in
     let is : c.in_ok-regions.regions ≡ core_region network ∷ [] = c.in_ok-regions.ensures.region ∙ same_region c.core_end.result c.core_end-2.result c.core_end-3.result c.core_end-4.result c.points.result

@@ -9,6 +9,6 @@ pub cut-requires-clause-fits : goal.cut-requires-clause-fits
 cut-requires-clause-fits g c = subst (λ (items : List ℕ). sum items < 2 ^ 64) (sym c.requires.areas) (areas_fit c.args.network.now c.points-points.ensures.valid)
 
 pub solved-requires-clause-shares : goal.solved-requires-clause-shares
-solved-requires-clause-shares g c = λ κs lives.
+solved-requires-clause-shares g c =
     subst (λ (rs : List Region). AreShares (length c.args.network.now.points) MOST_COORDINATE rs) (sym c.in_ok-regions.ensures.parts)
     (c.parts_share.ensures (length c.args.network.now.points) MOST_COORDINATE c.args.areas.now c.as_slice-xs.result.now c.as_slice-ys.result.now c.args.level.now.regions c.requires.sane.shares)
