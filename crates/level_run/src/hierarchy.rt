@@ -7,17 +7,17 @@ ghost use Rattle.area_cut.specs.Regions.{AreShares};
 ghost use Rattle.relax_crew.specs.Crew.{IsCrewSize};
 ghost use Rattle.net_model.specs.Webs.{joints_of};
 ghost use Rattle.net_model.specs.WellFormed.{IsNet};
-ghost use Rattle.level_run.specs.Levels.{IsLevel, IsFirst, IsNext, IsLevels, HasChains, areas_of, no_mids, core_region};
-ghost use Rattle.level_run.specs.Forms.Solved.{IsSane};
+ghost use Rattle.level_run.specs.Levels.{IsLevels, HasChains, areas_of, no_mids, core_region, next_regions};
+ghost use Rattle.level_run.specs.Forms.Solved.{IsSane, IsUnsolved};
 ghost use Rattle.level_run.specs.LevelSystem.{coordinate};
 ghost use Rattle.book_files.specs.Ranges.{IsInRange};
 
 use crate::level::{Level, Levels};
 use crate::projection::{coordinate, project};
-use crate::solving::{Crew, Player, Solver};
+use crate::solving::{Crew, Player, Unsolved};
 use area_cut::{Axis, Regions, cut, parts_share, whole};
-use book_outer::Gate;
 use book_files::Event;
+use book_outer::Gate;
 use book_text::Memory;
 use net_model::Network;
 use pad_reach::{Reach, reach_leads};
@@ -58,12 +58,7 @@ pub fn levels<R: Threads + Sync, G: Gate>(
     reach_leads();
     let _reach = reach;
     let _points = network.points();
-    levels_with(
-        alloc,
-        &Crew::new(rt, gate, options.seats),
-        network,
-        options.levels,
-    )
+    Crew::new(rt, gate, options.seats).levels(alloc, network, options.levels)
 }
 
 /// The same levels, each system solved by a schedule of events in place of a crew: on each axis and from both sides the events
@@ -84,51 +79,13 @@ pub fn levels_by(
     reach_leads();
     let _reach = reach;
     let _points = network.points();
-    levels_with(
-        alloc,
-        &Player::new(events, options.seats),
-        network,
-        options.levels,
-    )
+    Player::new(events, options.seats).levels(alloc, network, options.levels)
 }
 
-/// The levels, by any solver.
-fn levels_with<S: Solver>(
-    alloc: Global,
-    solver: &S,
-    network: &Network,
-    count: u32,
-) -> Result<Levels, Memory>
-    requires chains { HasChains network.now }
-    requires few { count ≤ MOST_LEVELS }
-    ensures { IfOk result (IsLevels network.now count) }
-{
-    parts_share();
-    let _points = network.points();
-    let areas = areas(alloc, network)?;
-    let mut levels = Levels::new(alloc);
-    levels.push(first_level(alloc, solver, network)?)?;
-    for n in 0..count {
-        let next = next_level(
-            alloc,
-            solver,
-            network,
-            &areas,
-            &levels.as_slice()[n as usize],
-        )?;
-        levels.push(next)?;
-    }
-    Ok(levels)
-}
-
-/// The first level: all points share the core.
-fn first_level<S: Solver>(
-    alloc: Global,
-    solver: &S,
-    network: &Network,
-) -> Result<Level, Memory>
+/// The regions of the first level, in which all points share the core, and their systems.
+pub(crate) fn first_systems(alloc: Global, network: &Network) -> Result<Unsolved, Memory>
     requires { HasChains network.now }
-    ensures { IfOk result (IsFirst network.now) }
+    ensures { IfOk result (IsUnsolved network.now (core_region network.now ∷ []) (no_mids network.now) (no_mids network.now)) }
 {
     let core = network.core();
     let regions = whole(
@@ -140,52 +97,50 @@ fn first_level<S: Solver>(
         core_end(core.yhi),
     )?;
     let mids = vec![in alloc; 0; network.points()]?;
-    solved(alloc, solver, network, regions, &mids, &mids)
+    systems(alloc, network, regions, &mids, &mids)
 }
 
-/// The level after this one.
-fn next_level<S: Solver>(
+/// The regions of the level after this one, and their systems.
+pub(crate) fn next_systems(
     alloc: Global,
-    solver: &S,
     network: &Network,
     areas: &[u64],
     level: &Level,
-) -> Result<Level, Memory>
+) -> Result<Unsolved, Memory>
     requires chains { HasChains network.now }
     requires areas { areas.now ≡ areas_of network.now }
     requires sane { IsSane network.now level.now }
-    ensures { IfOk result (IsNext network.now level.now) }
+    ensures { IfOk result (IsUnsolved network.now (next_regions network.now level.now) level.now.x.mid level.now.y.mid) }
 {
     parts_share();
     let _points = network.points();
     let xs = level.x.mid.as_slice();
     let ys = level.y.mid.as_slice();
     let regions = cut(alloc, &level.regions, areas, xs, ys)?;
-    solved(alloc, solver, network, regions, xs, ys)
+    systems(alloc, network, regions, xs, ys)
 }
 
-/// The level over these regions, solved with these mids.
-fn solved<S: Solver>(
+/// These regions and their systems, made with these mids.
+fn systems(
     alloc: Global,
-    solver: &S,
     network: &Network,
     regions: Regions,
     xs: &[u64],
     ys: &[u64],
-) -> Result<Level, Memory>
+) -> Result<Unsolved, Memory>
     requires chains { HasChains network.now }
     requires shares { AreShares (length network.now.points) MOST_COORDINATE regions }
     requires xs { length xs.now ≡ length network.now.points }
     requires ys { length ys.now ≡ length network.now.points }
-    ensures { IfOk result (IsLevel network.now regions xs.now ys.now) }
+    ensures { IfOk result (IsUnsolved network.now regions xs.now ys.now) }
 {
-    let x = solver.solve(alloc, &project(alloc, network, Axis::X, &regions, xs)?)?;
-    let y = solver.solve(alloc, &project(alloc, network, Axis::Y, &regions, ys)?)?;
-    Ok(Level { regions, x, y })
+    let x = project(alloc, network, Axis::X, &regions, xs)?;
+    let y = project(alloc, network, Axis::Y, &regions, ys)?;
+    Ok(Unsolved { regions, x, y })
 }
 
 /// The areas of the points. They add up to fewer than 2^64 sites.
-fn areas(alloc: Global, network: &Network) -> Result<Vec<u64>, Memory>
+pub(crate) fn areas(alloc: Global, network: &Network) -> Result<Vec<u64>, Memory>
     ensures areas { IfOk result (λ areas. areas.items ≡ areas_of network.now) }
     ensures fits { IfOk result (λ areas. sum areas.items < 2 ^ 64) }
 {

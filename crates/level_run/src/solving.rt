@@ -3,23 +3,28 @@
 ghost use Rattle.std.specs.Prelude.{◌≡◌, ℕ, ◌+◌, ◌/◌, ◌^◌, ◌<◌, ◌≤◌, [], length, slice_index, IfOk};
 ghost use Rattle.relax_system.specs.Extremal.{IsLeast, IsGreatest};
 ghost use Rattle.relax_crew.specs.Crew.{IsCrewSize};
-ghost use Rattle.level_run.specs.Levels.{IsSolve, halfway};
+ghost use Rattle.level_run.specs.Levels.{IsSolve, IsFirst, IsNext, IsLevels, HasChains, areas_of, halfway};
+ghost use Rattle.level_run.specs.Forms.Solved.{IsSane, Solves};
 
-use crate::level::Solve;
+use crate::hierarchy::{MOST_LEVELS, areas, first_systems, next_systems};
+use crate::level::{Level, Levels, Solve};
+use area_cut::{Regions, parts_share};
 use book_files::Event;
 use book_outer::Gate;
 use book_text::Memory;
+use net_model::Network;
 use relax_crew::{greatest, least};
 use relax_system::{Side, System, Values};
 use relax_world::play;
 use std::alloc::Global;
 use std::thread::Threads;
 
-/// Who solves the systems of levels.
-pub(crate) trait Solver {
-    /// The least and the greatest vector of a system, and what lies halfway.
-    fn solve(&self, alloc: Global, system: &System) -> Result<Solve, Memory>
-        ensures { IfOk result (IsSolve system.now) };
+/// A level that isn't solved yet: its regions, and their systems on both axes.
+#[derive(Drop)]
+pub(crate) struct Unsolved {
+    pub(crate) regions: Regions,
+    pub(crate) x: System,
+    pub(crate) y: System,
 }
 
 /// Who solves: the seats of a crew, what starts their threads, and the gate that is called.
@@ -40,9 +45,69 @@ impl<'a, R: Threads + Sync, G: Gate> Crew<'a, R, G> {
         Crew { rt, gate, seats }
     }
 
+    /// The first level and so many after it.
+    pub(crate) fn levels(
+        &self,
+        alloc: Global,
+        network: &Network,
+        count: u32,
+    ) -> Result<Levels, Memory>
+        requires chains { HasChains network.now }
+        requires few { count ≤ MOST_LEVELS }
+        ensures { IfOk result (IsLevels network.now count) }
+    {
+        parts_share();
+        let _points = network.points();
+        let areas = areas(alloc, network)?;
+        let mut levels = Levels::new(alloc);
+        levels.push(self.first_level(alloc, network)?)?;
+        for n in 0..count {
+            let last = &levels.as_slice()[n as usize];
+            let next = self.next_level(alloc, network, &areas, last)?;
+            levels.push(next)?;
+        }
+        Ok(levels)
+    }
 
-    /// What the trait asks of it.
-    fn solve_together(&self, alloc: Global, system: &System) -> Result<Solve, Memory>
+    /// The first level: all points share the core.
+    fn first_level(&self, alloc: Global, network: &Network) -> Result<Level, Memory>
+        requires { HasChains network.now }
+        ensures { IfOk result (IsFirst network.now) }
+    {
+        self.level(alloc, first_systems(alloc, network)?)
+    }
+
+    /// The level after this one.
+    fn next_level(
+        &self,
+        alloc: Global,
+        network: &Network,
+        areas: &[u64],
+        level: &Level,
+    ) -> Result<Level, Memory>
+        requires chains { HasChains network.now }
+        requires areas { areas.now ≡ areas_of network.now }
+        requires sane { IsSane network.now level.now }
+        ensures { IfOk result (IsNext network.now level.now) }
+    {
+        self.level(alloc, next_systems(alloc, network, areas, level)?)
+    }
+
+    /// The level of these systems.
+    fn level(&self, alloc: Global, unsolved: Unsolved) -> Result<Level, Memory>
+        ensures { IfOk result (Solves unsolved) }
+    {
+        let x = self.solve(alloc, &unsolved.x)?;
+        let y = self.solve(alloc, &unsolved.y)?;
+        Ok(Level {
+            regions: unsolved.regions,
+            x,
+            y,
+        })
+    }
+
+    /// The least and the greatest vector of a system, and what lies halfway.
+    fn solve(&self, alloc: Global, system: &System) -> Result<Solve, Memory>
         ensures { IfOk result (IsSolve system.now) }
     {
         if system.points() == 0 {
@@ -51,12 +116,6 @@ impl<'a, R: Threads + Sync, G: Gate> Crew<'a, R, G> {
         let lo = least(self.rt, alloc, system, self.seats, self.gate)?;
         let hi = greatest(self.rt, alloc, system, self.seats, self.gate)?;
         solve_of(alloc, system, lo.seat.seen(), hi.seat.seen())
-    }
-}
-
-impl<'a, R: Threads + Sync, G: Gate> Solver for Crew<'a, R, G> {
-    fn solve(&self, alloc: Global, system: &System) -> Result<Solve, Memory> {
-        self.solve_together(alloc, system)
     }
 }
 
@@ -76,10 +135,72 @@ impl<'a> Player<'a> {
     {
         Player { events, seats }
     }
-}
 
-impl<'a> Solver for Player<'a> {
-    fn solve(&self, alloc: Global, system: &System) -> Result<Solve, Memory> {
+    /// The first level and so many after it.
+    pub(crate) fn levels(
+        &self,
+        alloc: Global,
+        network: &Network,
+        count: u32,
+    ) -> Result<Levels, Memory>
+        requires chains { HasChains network.now }
+        requires few { count ≤ MOST_LEVELS }
+        ensures { IfOk result (IsLevels network.now count) }
+    {
+        parts_share();
+        let _points = network.points();
+        let areas = areas(alloc, network)?;
+        let mut levels = Levels::new(alloc);
+        levels.push(self.first_level(alloc, network)?)?;
+        for n in 0..count {
+            let last = &levels.as_slice()[n as usize];
+            let next = self.next_level(alloc, network, &areas, last)?;
+            levels.push(next)?;
+        }
+        Ok(levels)
+    }
+
+    /// The first level: all points share the core.
+    fn first_level(&self, alloc: Global, network: &Network) -> Result<Level, Memory>
+        requires { HasChains network.now }
+        ensures { IfOk result (IsFirst network.now) }
+    {
+        self.level(alloc, first_systems(alloc, network)?)
+    }
+
+    /// The level after this one.
+    fn next_level(
+        &self,
+        alloc: Global,
+        network: &Network,
+        areas: &[u64],
+        level: &Level,
+    ) -> Result<Level, Memory>
+        requires chains { HasChains network.now }
+        requires areas { areas.now ≡ areas_of network.now }
+        requires sane { IsSane network.now level.now }
+        ensures { IfOk result (IsNext network.now level.now) }
+    {
+        self.level(alloc, next_systems(alloc, network, areas, level)?)
+    }
+
+    /// The level of these systems.
+    fn level(&self, alloc: Global, unsolved: Unsolved) -> Result<Level, Memory>
+        ensures { IfOk result (Solves unsolved) }
+    {
+        let x = self.solve(alloc, &unsolved.x)?;
+        let y = self.solve(alloc, &unsolved.y)?;
+        Ok(Level {
+            regions: unsolved.regions,
+            x,
+            y,
+        })
+    }
+
+    /// The least and the greatest vector of a system, and what lies halfway.
+    fn solve(&self, alloc: Global, system: &System) -> Result<Solve, Memory>
+        ensures { IfOk result (IsSolve system.now) }
+    {
         if system.points() == 0 {
             return Ok(empty(alloc));
         }

@@ -9,7 +9,7 @@ use Rattle.area_cut.specs.Regions.{AreShares}
 use Rattle.level_run.specs.LevelSystem.{coordinate}
 use Rattle.level_run.specs.Levels.{core_region}
 use Rattle.level_run.proofs.Shared.{core_shares}
-use Rattle.level_run.proofs.hierarchy.first_level.Goals as goal
+use Rattle.level_run.proofs.hierarchy.first_systems.Goals as goal
 
 abbrev region_by : ℕ → ℕ → ℕ → ℕ → ℕ → List Region
 region_by xlo xhi ylo yhi points = record { xlo = xlo; xhi = xhi; ylo = ylo; yhi = yhi; points = range_with_len 0 points } ∷ []
@@ -17,8 +17,8 @@ region_by xlo xhi ylo yhi points = record { xlo = xlo; xhi = xhi; ylo = ylo; yhi
 same_region : (a b c d n p q r s m : ℕ) → a ≡ p → b ≡ q → c ≡ r → d ≡ s → n ≡ m → region_by a b c d n ≡ region_by p q r s m
 same_region a b c d n p q r s m e f g h i = ap (λ (x : ℕ). region_by x b c d n) e ∙ ap (λ (x : ℕ). region_by p x c d n) f ∙ ap (λ (x : ℕ). region_by p q x d n) g ∙ ap (λ (x : ℕ). region_by p q r x n) h ∙ ap (region_by p q r s) i
 
-pub solved-requires-clause-shares : goal.solved-requires-clause-shares
-solved-requires-clause-shares g c =
+pub systems-requires-clause-shares : goal.systems-requires-clause-shares
+systems-requires-clause-shares c =
     let network = c.args.network.now in
     let core = c.core-core.ensures.core in
     let is : c.in_ok-regions.regions ≡ core_region network ∷ [] = c.in_ok-regions.ensures.region ∙ same_region c.core_end.result c.core_end-2.result c.core_end-3.result c.core_end-4.result c.points.result

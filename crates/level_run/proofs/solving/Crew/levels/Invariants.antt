@@ -1,5 +1,5 @@
 use Rattle.level_run.specs.Levels.{IsLevels}
-use Rattle.level_run.proofs.hierarchy.levels_with.Given as goal
+use Rattle.level_run.proofs.solving.Crew.levels.Given as goal
 
 abbrev pub invariant-loop-n : goal.invariant-loop-n
 invariant-loop-n g l = IsLevels l.network l.n l.levels

@@ -3,10 +3,10 @@ use Rattle.level_run.specs.declared.level.Level.{Level}
 use Rattle.level_run.specs.Levels.{IsLevels, IsNext}
 use Rattle.level_run.specs.Forms.Solved.{IsSane}
 use Rattle.level_run.proofs.One.{sane_at, one_level_more}
-use Rattle.level_run.proofs.hierarchy.levels_with.Goals as goal
+use Rattle.level_run.proofs.solving.Crew.levels.Goals as goal
 
 pub next_level-requires-clause-sane : goal.next_level-requires-clause-sane
-next_level-requires-clause-sane g c =
+next_level-requires-clause-sane g c = λ κs lives.
     let level = c.index-as_slice-n.result in
     let many = c.loop-n.invariant.many in
     let is : level ≡ get_or c.loop-n.levels c.loop-n.n level = c.index-as_slice-n.is ∙ ap (λ (ls : List Level). get_or ls c.loop-n.n level) c.as_slice.ensures in
