@@ -1,0 +1,3 @@
+pub mod Sounds
+pub mod Events
+pub mod Replays
