@@ -1,3 +1,3 @@
 pub mod Sounds
-pub mod Events
+pub mod Schedules
 pub mod Replays

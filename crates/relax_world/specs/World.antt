@@ -6,8 +6,9 @@ use Rattle.relax_system.specs.Sides.{starts_of}
 use Rattle.relax_table.specs.Ways.{is_past, one_if}
 use Rattle.relax_table.specs.Step.{Kind, word_after, seen_after}
 use Rattle.relax_table.specs.Step.Kind.{Load, Renew}
-use Rattle.relax_world.specs.declared.event.Event.{Event}
-use Rattle.relax_world.specs.declared.event.Event.TheVariants as event
+use Rattle.book_files.specs.declared.schedule.Event.{Event}
+use Rattle.book_files.specs.declared.schedule.Event.TheVariants as event
+use Rattle.book_files.specs.Schedule.{seat_of, point_of}
 use Rattle.relax_world.specs.declared.world.TheConstants.{MOST_WORLD_SEATS}
 
 -- a number of seats that a machine may have
@@ -34,14 +35,6 @@ first_world side points seats = world_of side points (starts_of side points) (re
 abbrev pub kind_of : Event → Kind
 kind_of (event.Load seat point) = Load
 kind_of (event.Renew seat point) = Renew
-
-abbrev pub seat_of : Event → ℕ
-seat_of (event.Load seat point) = seat
-seat_of (event.Renew seat point) = seat
-
-abbrev pub point_of : Event → ℕ
-point_of (event.Load seat point) = point
-point_of (event.Renew seat point) = point
 
 abbrev pub is_there : WorldState → ℕ → ℕ → Bool
 is_there w seat point = nat_lt seat (length w.seen) && nat_lt point (length w.words)

@@ -6,8 +6,9 @@ ghost use Rattle.relax_system.specs.declared.side.Side.{Side};
 ghost use Rattle.relax_system.specs.declared.points.Point.{Point};
 ghost use Rattle.relax_system.specs.System.{IsValid};
 ghost use Rattle.relax_table.specs.Step.{word_after, seen_after};
-ghost use Rattle.relax_world.specs.declared.event.Event.{Event};
-ghost use Rattle.relax_world.specs.World.{WorldState, first_world, world_after, kind_of, seat_of, point_of, seen_by};
+ghost use Rattle.book_files.specs.declared.schedule.Event.{Event};
+ghost use Rattle.book_files.specs.Schedule.{seat_of, point_of};
+ghost use Rattle.relax_world.specs.World.{WorldState, first_world, world_after, kind_of, seen_by};
 ghost use Rattle.relax_world.specs.Sound.{IsSoundWorld};
 
 /// Whatever the schedule, what holds of the machine holds behind it.

@@ -1,13 +1,12 @@
 //! A machine of explicit events over a system, and schedules replayed on a racing table.
 #![tactic(auto)]
 
-mod event;
 mod laws;
 mod replay;
 mod sight;
 mod world;
 
-pub use event::Event;
+pub use book_files::{Event, Events, read_schedule};
 pub use laws::{schedules_are_sound, steps_are_of_tables};
 pub use relax_system::Side;
 pub use replay::{Played, play};

@@ -7,8 +7,8 @@ ghost use Rattle.relax_table.specs.Seats.{IsSeatOf};
 ghost use Rattle.relax_world.specs.World.{IsSeatCount};
 ghost use Rattle.relax_world.specs.Forms.Table.{AllSeated, moves_of, IsFirstDone, IsPlayed};
 
-use crate::event::Event;
 use crate::world::{place_of, starts};
+use book_files::Event;
 use book_text::Memory;
 use relax_system::{Side, System, Values};
 use relax_table::{Direction, Down, SideSeat, SideTable, Steps, Up};

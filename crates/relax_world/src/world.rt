@@ -6,11 +6,12 @@ ghost use Rattle.relax_system.specs.Means.{InBoxes};
 ghost use Rattle.relax_system.specs.Sides.{further_of, mean_of, starts_of};
 ghost use Rattle.relax_table.specs.Step.Kind.{Load, Renew};
 ghost use Rattle.relax_table.specs.Ways.{is_past, one_if};
-ghost use Rattle.relax_world.specs.World.{IsSeatCount, first_world, stepped, world_after, seat_of, point_of};
+ghost use Rattle.book_files.specs.Schedule.{seat_of, point_of};
+ghost use Rattle.relax_world.specs.World.{IsSeatCount, first_world, stepped, world_after};
 ghost use Rattle.relax_world.specs.Sound.{IsSoundWorld};
 
-use crate::event::Event;
 use crate::sight::Sight;
+use book_files::Event;
 use book_text::Memory;
 use relax_system::{Side, System};
 use std::alloc::Global;

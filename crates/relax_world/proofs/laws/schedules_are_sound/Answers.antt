@@ -1,6 +1,6 @@
 use Rattle.relax_world.specs.World.{first_world}
 use Rattle.relax_world.proofs.Sounds.{sound_first}
-use Rattle.relax_world.proofs.Events.{sound_run}
+use Rattle.relax_world.proofs.Schedules.{sound_run}
 use Rattle.relax_world.proofs.laws.schedules_are_sound.Goals as goal
 
 pub returns : goal.returns

@@ -1,4 +1,4 @@
-use Rattle.relax_world.proofs.Events.{word_there, seen_there}
+use Rattle.relax_world.proofs.Schedules.{word_there, seen_there}
 use Rattle.relax_world.proofs.laws.steps_are_of_tables.Goals as goal
 
 pub returns-clause-word : goal.returns-clause-word

@@ -5,8 +5,9 @@ use Rattle.std.proofs.lemmas.List.{get_or-set_same}
 use Rattle.std.proofs.lemmas.Bool.{cases_lt}
 use Rattle.std.proofs.lemmas.Bool.Decides.{nat_tests}
 use Rattle.relax_table.specs.Step.{seen_after}
-use Rattle.relax_world.specs.declared.event.Event.{Event}
-use Rattle.relax_world.specs.World.{WorldState, stepped, world_after, kind_of, seat_of, point_of, seen_by, word_by}
+use Rattle.book_files.specs.declared.schedule.Event.{Event}
+use Rattle.book_files.specs.Schedule.{seat_of, point_of}
+use Rattle.relax_world.specs.World.{WorldState, stepped, world_after, kind_of, seen_by, word_by}
 use Rattle.relax_world.specs.Sound.{IsSoundWorld}
 use Rattle.relax_world.proofs.Sounds.{sound_stepped}
 
