@@ -15,3 +15,5 @@ mod samples;
 mod system;
 #[cfg(test)]
 mod table;
+#[cfg(test)]
+mod world;

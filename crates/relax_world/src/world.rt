@@ -101,6 +101,13 @@ impl<'a> World<'a> {
         &self.words
     }
 
+    /// How many seats there are.
+    pub fn seats(&self) -> usize
+        ensures { result ≡ length self.now.seen }
+    {
+        self.seen.len()
+    }
+
     /// What a seat has seen: a coordinate per point.
     pub fn seen(&self, seat: u32) -> &[u64]
         requires { seat < length self.now.seen }
