@@ -1,4 +1,5 @@
-//! The tests of the equations: of the search for chains, of systems, tables, crews and certificates, by public calls alone.
+//! The tests of the equations: of the search for chains, of systems, tables, crews, schedules and certificates, by
+//! public calls alone.
 //!
 //! It hands out nothing, and no crate stands on it. A crate with tests of its own would be proved twice.
 #![tactic(auto)]

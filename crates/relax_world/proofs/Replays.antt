@@ -1,4 +1,4 @@
--- The moves of seats, one after another.
+-- The moves of seats, one after another, and a slice of them written back.
 use Rattle.std.proofs.Common.{◌≡◌, ℕ, ◌+◌, List, [], ◌∷◌, ◌++◌, sum, length, take, drop, arith}
 use Rattle.std.proofs.lemmas.List.{map-append}
 use Rattle.std.proofs.lemmas.List.Sums.{sum_by_push}

@@ -1,11 +1,11 @@
 //! A schedule replayed on a racing table, and settled.
 
-ghost use Rattle.std.specs.Prelude.{◌≡◌, ℕ, ◌<◌, ◌≤◌, List, [], length, replicate, sum, vec_len, IfOk};
+ghost use Rattle.std.specs.Prelude.{◌≡◌, ℕ, ◌<◌, ◌≤◌, List, [], ◌∷◌, length, replicate, sum, vec_len, IfOk};
 ghost use Rattle.relax_system.specs.Sides.{distance, starts_of, IsExtremal};
 ghost use Rattle.relax_table.specs.Ways.{IsQuietVector};
 ghost use Rattle.relax_table.specs.Seats.{IsSeatOf};
 ghost use Rattle.relax_world.specs.World.{IsSeatCount};
-ghost use Rattle.relax_world.specs.Forms.Table.{AllSeated, moves_of, IsFirstDone, IsPlayed};
+ghost use Rattle.relax_world.specs.Forms.Table.{AllSeated, EachMakesOwn, moves_of, IsFirstDone, IsPlayed};
 
 use crate::world::{place_of, starts};
 use book_files::Event;
@@ -67,7 +67,7 @@ fn play_side<D: Direction>(
     let start = starts(alloc, D::side(), system)?;
     let (table, first) = SideTable::<D>::over(alloc, system, &start)?;
     let mut crew = seats_of(alloc, &table, first, seats)?;
-    make_steps::<D, Brand>(&table, system.points(), &mut crew, events, Blank::new(1));
+    run::<D, Brand>(&table, system.points(), &mut crew, events, Blank::new(1));
     answer(alloc, &table, crew)
 }
 
@@ -103,7 +103,7 @@ fn seats_of<D: Direction>(
 }
 
 /// Makes the steps of the events in order, and settles the first seat. The steps aren't counted.
-fn make_steps<D: Direction, L: Ledger>(
+fn run<D: Direction, L: Ledger>(
     table: &SideTable<'_, D>,
     points: usize,
     crew: &mut [SideSeat<D>],
@@ -121,10 +121,27 @@ fn make_steps<D: Direction, L: Ledger>(
     ensures done { IsFirstDone D.side table.now crew.new }
 {
     let mut steps = Steps::<L>::new(blank);
-    for event in events {
-        make_step(table, points, crew, *event, &mut steps);
-    }
+    make_steps(table, points, crew, events, &mut steps);
     table.settle_all(&mut crew[0], &mut steps);
+}
+
+/// Makes the steps of the events, in order.
+fn make_steps<D: Direction, L: Ledger>(
+    table: &SideTable<'_, D>,
+    points: usize,
+    crew: &mut [SideSeat<D>],
+    events: &[Event],
+    steps: &mut Steps<L>,
+)
+    requires points { points ≡ length table.now.system }
+    requires seated { AllSeated table.now crew.old }
+    ensures count { length crew.new ≡ length crew.old }
+    ensures seated { AllSeated table.now crew.new }
+    ensures own { EachMakesOwn points events.now crew.old crew.new }
+{
+    for event in events {
+        make_step(table, points, crew, *event, steps);
+    }
 }
 
 /// Makes the step of an event, where its seat and its point are there.
@@ -139,6 +156,7 @@ fn make_step<D: Direction, L: Ledger>(
     requires seated { AllSeated table.now crew.old }
     ensures count { length crew.new ≡ length crew.old }
     ensures seated { AllSeated table.now crew.new }
+    ensures own { EachMakesOwn points (event ∷ []) crew.old crew.new }
 {
     let (seat, point) = place_of(event);
     if seat < crew.len() && point < points {

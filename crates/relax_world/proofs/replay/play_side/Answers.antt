@@ -4,6 +4,6 @@ use Rattle.relax_world.proofs.replay.play_side.Goals as goal
 
 pub answer-requires-clause-done : goal.answer-requires-clause-done
 answer-requires-clause-done g c κs within =
-    let whole : take c.in_ok-crew.crew.len (c.make_steps.new.crew ++ drop (length c.make_steps.new.crew) c.in_ok-crew.crew.items) ≡ c.make_steps.new.crew =
-    rest_of c.make_steps.new.crew c.in_ok-crew.crew.items c.in_ok-crew.crew.len (cc) (search rules) in
-    rw whole c.make_steps.ensures.done
+    let whole : take c.in_ok-crew.crew.len (c.run.new.crew ++ drop (length c.run.new.crew) c.in_ok-crew.crew.items) ≡ c.run.new.crew =
+    rest_of c.run.new.crew c.in_ok-crew.crew.items c.in_ok-crew.crew.len (cc) (search rules) in
+    rw whole c.run.ensures.done

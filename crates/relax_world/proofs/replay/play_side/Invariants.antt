@@ -1,4 +1,4 @@
 use Rattle.relax_world.proofs.replay.play_side.Given as goal
 
-abbrev pub ghosts-make_steps : goal.ghosts-make_steps
-ghosts-make_steps g a = record { name = a.blank.name; parts = a.blank.parts }
+abbrev pub ghosts-run : goal.ghosts-run
+ghosts-run g a = record { name = a.blank.name; parts = a.blank.parts }
