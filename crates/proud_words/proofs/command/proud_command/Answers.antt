@@ -1,4 +1,4 @@
-use Rattle.std.proofs.Common.{rules, ap, ap₂, ◌∙◌, ◌≡◌, false, List, Some}
+use Rattle.std.proofs.Common.{ap, ap₂, ◌∙◌, ◌≡◌, false, List, Some}
 use Rattle.std.specs.Prelude.{ℕ, Option}
 use Rattle.std.specs.Borrow.{Bor}
 use Rattle.clap.specs.Words.{Rule, new_rule, rule_of, with_rule}
@@ -18,6 +18,13 @@ number_rule start named whole id name parser new long others given =
 local : (start named whole : Arg) (name : Bor (List ℕ)) → start.global ≡ false → named ≡ record start { long = Some name } → whole ≡ record named { value_parser = whole.value_parser } → whole.global ≡ false
 local start named whole name off long others = ap (λ (a : Arg). a.global) others ∙ ap (λ (a : Arg). a.global) long ∙ off
 
+-- an option with a text, from its id and its name
+text_rule : (start named : Arg) (id : List ℕ) (name : Bor (List ℕ)) → rule_of start ≡ new_rule id → named ≡ record start { long = Some name } → rule_of named ≡ record (new_rule id) { long = Some name.now }
+text_rule start named id name new long = ap rule_of long ∙ ap (λ (r : Rule). record r { long = Some name.now }) new
+
+local_text : (start named : Arg) (name : Bor (List ℕ)) → start.global ≡ false → named ≡ record start { long = Some name } → named.global ≡ false
+local_text start named name off long = ap (λ (a : Arg). a.global) long ∙ off
+
 pub returns : goal.returns
 returns c =
     let given = c.value_parser-levels.ensures.given in
@@ -28,10 +35,13 @@ returns c =
     number_rule c.new-2.result c.long-2.result c.value_parser-seats.result _ _ _ c.new-2.ensures.rule c.long-2.ensures c.value_parser-seats.ensures.others (given_too.1 ∙ ap Some (given_too.2 ∙ c.unsigned-2.ensures)) in
     let levels_off = local c.new.result c.long.result c.value_parser-levels.result _ c.new.ensures.optional.1 c.long.ensures c.value_parser-levels.ensures.others in
     let seats_off = local c.new-2.result c.long-2.result c.value_parser-seats.result _ c.new-2.ensures.optional.1 c.long-2.ensures c.value_parser-seats.ensures.others in
-    let out : rule_of c.long-out.result ≡ out_rule = search rules in
-    let schedule : rule_of c.long-schedule.result ≡ schedule_rule = search rules in
-    let grid : rule_of c.long-grid.result ≡ grid_rule = search rules in
-    let design : rule_of c.new-design.result ≡ design_rule = search rules in
-    c.in_ok-command.ensures.shape (search rules) ∙ ap₂ with_rule (c.in_ok-arg-5.ensures.shape (search rules)
-    ∙ ap₂ with_rule (c.in_ok-arg-4.ensures.shape (search rules) ∙ ap₂ with_rule (c.in_ok-arg-3.ensures.shape (search rules) ∙ ap₂ with_rule (c.in_ok-arg-2.ensures.shape seats_off
+    let out : rule_of c.long-out.result ≡ out_rule = text_rule c.new-3.result c.long-out.result _ _ c.new-3.ensures.rule c.long-out.ensures in
+    let schedule : rule_of c.long-schedule.result ≡ schedule_rule = text_rule c.new-4.result c.long-schedule.result _ _ c.new-4.ensures.rule c.long-schedule.ensures in
+    let grid : rule_of c.long-grid.result ≡ grid_rule = text_rule c.new-5.result c.long-grid.result _ _ c.new-5.ensures.rule c.long-grid.ensures in
+    let design : rule_of c.new-design.result ≡ design_rule = c.new-design.ensures.rule in
+    let out_off = local_text c.new-3.result c.long-out.result _ c.new-3.ensures.optional.1 c.long-out.ensures in
+    let schedule_off = local_text c.new-4.result c.long-schedule.result _ c.new-4.ensures.optional.1 c.long-schedule.ensures in
+    let grid_off = local_text c.new-5.result c.long-grid.result _ c.new-5.ensures.optional.1 c.long-grid.ensures in
+    c.in_ok-command.ensures.shape c.new-design.ensures.optional.1 ∙ ap₂ with_rule (c.in_ok-arg-5.ensures.shape grid_off
+    ∙ ap₂ with_rule (c.in_ok-arg-4.ensures.shape schedule_off ∙ ap₂ with_rule (c.in_ok-arg-3.ensures.shape out_off ∙ ap₂ with_rule (c.in_ok-arg-2.ensures.shape seats_off
     ∙ ap₂ with_rule (c.in_ok-arg.ensures.shape levels_off ∙ ap₂ with_rule c.new-6.ensures.app levels) seats) out) schedule) grid) design
