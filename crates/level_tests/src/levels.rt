@@ -329,7 +329,10 @@ const SCHEDULES: &[&[Event]] = &[
     ],
     &[
         Event::Load { seat: 7, point: 0 },
-        Event::Renew { seat: 0, point: 4_294_967_295 },
+        Event::Renew {
+            seat: 0,
+            point: 4_294_967_295,
+        },
     ],
 ];
 

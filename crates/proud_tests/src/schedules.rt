@@ -3,9 +3,7 @@
 ghost use Rattle.std.specs.Prelude.{IfOk};
 ghost use Rattle.book_outer.specs.Files.{AreNamesDistinct};
 
-use crate::designs::{
-    ONE_CELL, TWO_CELLS, Texts, USAGE, USUAL, calls_of, files_of, words_of,
-};
+use crate::designs::{ONE_CELL, TWO_CELLS, Texts, USAGE, USUAL, calls_of, files_of, words_of};
 use book_outer::{Files, Gate, MemFolder, MemSink, OpenGate};
 use book_text::Memory;
 use proud_top::{FileKind, Refusal, Status, TextFault, TextKind, proud};
@@ -69,6 +67,7 @@ struct Case {
 
 /// The placement of two cells without a cut, and its report.
 const TWO: &[u8] = b"UCLA pl 1.0\na 2 0 : N\nb 6 0 : N\nl 0 5 : N /FIXED\nr 10 5 : N /FIXED\n";
+
 const TWO_REPORT: &[u8] = b"cells 2 terminals 2 nets 3 pins 6\nlevels 0 gap 2\nwire 10\n";
 
 /// A run on two cells without a cut, by a schedule.
@@ -114,7 +113,13 @@ const CASES: [Case; 12] = [
     },
     Case {
         words: &[
-            "proud", "--schedule=s", "a.aux", "--seats", "1", "--levels", "0",
+            "proud",
+            "--schedule=s",
+            "a.aux",
+            "--seats",
+            "1",
+            "--levels",
+            "0",
         ],
         schedule: b"# a comment\r\n\r\nLOAD 0 4294967295\r\nReNew 0 1",
         ..SCHEDULED
@@ -123,7 +128,9 @@ const CASES: [Case; 12] = [
         words: &["proud", "--schedule", "s", "a.aux"],
         texts: USUAL,
         schedule: b"renew 3 0\nrenew 3 0\nrenew 2 1\nload 2 0\nrenew 2 1\n",
-        file: Some(b"UCLA pl 1.0\nu 6 12 : N\nv 14 24 : N\nm 14 0 : N /FIXED\ni -1 18 : N /FIXED\nq 20 30 : N /FIXED\n"),
+        file: Some(
+            b"UCLA pl 1.0\nu 6 12 : N\nv 14 24 : N\nm 14 0 : N /FIXED\ni -1 18 : N /FIXED\nq 20 30 : N /FIXED\n",
+        ),
         report: b"cells 2 terminals 3 nets 3 pins 7\nlevels 4 gap 1\nwire 37.5\n",
         ..SCHEDULED
     },
@@ -141,10 +148,7 @@ const CASES: [Case; 12] = [
         ..REFUSED
     },
     UNREAD,
-    Case {
-        call: 17,
-        ..UNREAD
-    },
+    Case { call: 17, ..UNREAD },
     Case {
         words: &["proud", "--schedule", "t", "a.aux"],
         call: 0,

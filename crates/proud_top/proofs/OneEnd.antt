@@ -1,6 +1,6 @@
 -- The flow has one end at most: each step has one answer, so the steps one behind another have one.
 use Rattle.std.proofs.Common.{◌≡◌, ◌⊎◌, ◌<◌, ◌≤◌, ℕ, List, [], length, refl, sym, ◌∙◌, ap, subst, inl, inr, arith}
-use Rattle.std.specs.Prelude.{Some, Result, Ok, Err}
+use Rattle.std.specs.Prelude.{Option, Some, None, Result, Ok, Err}
 use Rattle.std.proofs.lemmas.Bool.{cases_order}
 use Rattle.std.proofs.lemmas.List.{length-map, ext_get_or}
 use Rattle.book_outer.specs.Files.{FileEntry, content}
@@ -9,8 +9,7 @@ use Rattle.book_files.specs.declared.fault.TextFault.{TextFault}
 use Rattle.book_files.specs.Entries.{AuxEntry}
 use Rattle.book_files.specs.declared.loading.TheConstants.{MOST_BYTES}
 use Rattle.book_design.specs.Records.{Records}
-use Rattle.book_design.specs.Values.{NodeValue, DesignValue}
-use Rattle.book_design.specs.Points.{IsNodeOf}
+use Rattle.book_design.specs.Values.{DesignValue}
 use Rattle.pad_reach.specs.Chain.{Joint, HasChain}
 use Rattle.pad_reach.specs.Reaches.{IsFirstUnanchored}
 use Rattle.net_model.specs.Values.{NetworkValue}

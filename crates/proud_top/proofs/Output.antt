@@ -1,15 +1,15 @@
 -- Other bytes in the file of a name, and what comes of an output file that is made and put.
-use Rattle.std.proofs.Common.{◌≡◌, ◌⊎◌, ℕ, suc, ◌+◌, ◌<◌, ◌≤◌, Bool, true, false, cond, List, [], ◌∷◌, ◌++◌, length, refl, sym, ◌∙◌, ap, subst, inl, inr, arith}
+use Rattle.std.proofs.Common.{◌≡◌, ℕ, suc, ◌+◌, Bool, true, false, cond, List, [], ◌∷◌, ◌++◌, length, refl, sym, ◌∙◌, ap, subst, inl, inr, arith}
 use Rattle.std.specs.Prelude.{Option, Some, None, IsSome, Result, Ok, Err, bytes_eq, nat_lt, slice_set, slice_get, take, option_map, unwrap_or}
 use Rattle.std.proofs.lemmas.Bool.{cases_lt, lt-ltb, le-ltb}
 use Rattle.std.proofs.lemmas.Slice.Eq.{bytes_eq-Decides}
 use Rattle.book_outer.specs.declared.trouble.Trouble.{Trouble}
 use Rattle.book_outer.specs.declared.trouble.Trouble.TheVariants.{Failed, Memory}
-use Rattle.book_outer.specs.Cause.{Rose, one_more, HasCause}
+use Rattle.book_outer.specs.Cause.{HasCause}
 use Rattle.book_outer.specs.Files.{FileEntry, nth_of, with_content}
 use Rattle.book_outer.specs.Folder.{Creates, Puts, bytes_of}
 use Rattle.book_outer.specs.State.{FolderState}
-use Rattle.proud_top.specs.Statuses.{ReadsNothing, HasFile, HasFront}
+use Rattle.proud_top.specs.Statuses.{ReadsNothing}
 use Rattle.proud_top.specs.Forms.Saying.{Writes}
 
 abbrev file_of : List ℕ → List ℕ → FileEntry

@@ -24,7 +24,7 @@ use Rattle.net_model.specs.Webs.{joints_of}
 use Rattle.relax_system.specs.declared.points.Point.{Point}
 use Rattle.relax_system.specs.declared.valid.TheConstants.{MOST_COORDINATE}
 use Rattle.relax_system.specs.System.{IsValid}
-use Rattle.proud_top.specs.Forms.Over.{IsOver, IsBothOver, IsLastOver}
+use Rattle.proud_top.specs.Forms.Over.{IsOver, IsLastOver}
 
 -- what stands past the end
 abbrev no_node : NodeValue

@@ -32,7 +32,7 @@ placed_once a b e = cc
 -- a schedule makes no difference to what is placed
 unscheduled : (files : Option (List FileEntry)) (request : RequestValue) (placed : PlacedValue) → places files request.source request.schedule request.levels (Ok placed)
     → places files request.source None request.levels (Ok placed)
-unscheduled files request placed (records, read, done, scheduled, rest) = (records, read, tt, tt, rest)
+unscheduled files request placed h = (h.0, h.1, (tt, tt, h.2.2))
 
 -- the flow of a run that is done, from the files and for the request that are known, without its schedule
 flow_as : (files : List FileEntry) (own : Option (List FileEntry)) (request asked : RequestValue) (source : SourceValue) (levels : ℕ) (placed : PlacedValue) → own ≡ Some files → request ≡ asked

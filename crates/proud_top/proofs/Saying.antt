@@ -35,7 +35,7 @@ use Rattle.proud_top.specs.Wishes.{AreCells}
 use Rattle.proud_top.specs.Placement.{IsLegalText}
 use Rattle.proud_top.specs.Flow.{PlacedValue, ◌then◌, places, reads_design, reads, schedules, legalises, places_corners, places_levels, last_kind}
 use Rattle.proud_top.specs.Named.{node_of_fault, point_of_fault}
-use Rattle.proud_top.specs.Statuses.{status_of, Says, HasFile, HasFront, GotFront, HasReadUpTo, ReadsNothing, HasRead, HasReadAll, HasReadTo, HasNoRequest, IsPlacedAs, IsCause, IsDue, IsDone, IsUsage, IsRefused, IsReadFault, IsWriteFault, IsUnwritten, not_made, not_put, not_reported, IsPutUpTo, none_put, file_put, report_put, IsCutOff, cut_before, cut_in_line, cut_in_placement, IsMemory, IsPlaceable, AreReadsCalm, AreWritesCalm, ArePutsCalm, IsUntouched}
+use Rattle.proud_top.specs.Statuses.{status_of, Says, HasFile, HasFront, GotFront, HasReadUpTo, ReadsNothing, HasRead, HasReadAll, HasReadTo, IsCause, IsDue, IsDone, IsUsage, IsRefused, IsReadFault, IsWriteFault, IsUnwritten, not_made, not_put, not_reported, IsPutUpTo, none_put, file_put, report_put, cut_before, cut_in_line, cut_in_placement, IsMemory, IsPlaceable, AreReadsCalm, AreWritesCalm, ArePutsCalm, IsUntouched}
 use Rattle.proud_top.specs.Forms.Saying.{Puts, Delivers}
 use Rattle.proud_top.specs.Forms.Inputs.{HoldsWeights, HasTexts, places_texts}
 use Rattle.proud_top.specs.declared.source.Taken.{Taken}
@@ -186,7 +186,7 @@ source_reads o (of_grid grid) texts records h k =
 -- the flow from the texts on is that from the source on
 flow_texts : (o : Option (List FileEntry)) (source : SourceValue) (schedule : Option (List ℕ)) (count : ℕ) (texts : Texts) (end : Result PlacedValue Refusal) → AreTextsOf o source texts → schedules o schedule (Ok tt)
     → places_texts count texts end → places o source schedule count end
-flow_texts o source schedule count texts (Ok placed) h s flow = (flow.0, source_reads o source texts flow.0 h flow.1, tt, s, flow.2)
+flow_texts o source schedule count texts (Ok placed) h s flow = (flow.0, source_reads o source texts flow.0 h flow.1, (tt, s, flow.2))
 flow_texts o source schedule count texts (Err refusal) h s (inl none) = absurd none
 flow_texts o source schedule count texts (Err refusal) h s (inr (records, read, rest)) = inr (records, source_reads o source texts records h read, inr (tt, s, rest))
 

@@ -1,8 +1,7 @@
 -- From what the source and the schedule answered to what the taking of both says.
-use Rattle.std.proofs.Common.{◌≡◌, ◌⊎◌, ◌<◌, ℕ, List, Option, Some, None, IfSome, Ok, Err, refl, sym, ◌∙◌, ap, subst, inl, inr, arith}
-use Rattle.std.specs.Prelude.{Result, IsSome}
+use Rattle.std.proofs.Common.{◌≡◌, ◌⊎◌, ℕ, List, Option, Some, None, IfSome, Ok, Err, refl, sym, ◌∙◌, subst, inl, inr, arith}
 use Rattle.book_outer.specs.Cause.{Rose}
-use Rattle.book_outer.specs.Files.{FileEntry, content}
+use Rattle.book_outer.specs.Files.{FileEntry}
 use Rattle.book_outer.specs.Folder.{missed_after}
 use Rattle.book_outer.specs.State.{FolderState}
 use Rattle.book_files.specs.declared.records.FileKind.{FileKind}
@@ -17,16 +16,15 @@ use Rattle.proud_words.specs.Request.{SourceValue, of_design, of_grid}
 use Rattle.proud_top.specs.declared.status.Refusal.{Refusal}
 use Rattle.proud_top.specs.declared.stop.Stop.{Stop}
 use Rattle.proud_top.specs.declared.stop.Stop.TheVariants.{ReadFault, Refused, Memory}
-use Rattle.proud_top.specs.Accepted.{IsAccepted, IsFaultOf}
+use Rattle.proud_top.specs.Accepted.{IsAccepted}
 use Rattle.proud_top.specs.Texts.{Texts, AreWeights, AreRecords}
-use Rattle.proud_top.specs.Flow.{reads, reads_events, schedules, last_kind}
+use Rattle.proud_top.specs.Flow.{reads_events, schedules, last_kind}
 use Rattle.proud_top.specs.Statuses.{HasRead, HasReadAll, HasReadTo, IsUnreadFile, IsUnreadAt, IsUntouched}
 use Rattle.proud_top.specs.Forms.Inputs.{IsSoundText, AreSound}
-use Rattle.proud_top.specs.Forms.Gathering.{BeginsOne}
 use Rattle.proud_top.specs.Forms.Schedules.{StopsEvents, Names}
 use Rattle.proud_top.specs.Forms.Sources.{AreTextsOf, StopsSource, TakesSource, StopsTaking}
 use Rattle.proud_top.specs.Forms.Stops.{IsOfSource}
-use Rattle.proud_top.proofs.Gathering.{untouched_more, known, get, found_missed}
+use Rattle.proud_top.proofs.Gathering.{untouched_more, known, found_missed}
 use Rattle.proud_top.proofs.Once.{OneAnswer}
 use Rattle.proud_top.proofs.Saying.{source_reads}
 
@@ -60,7 +58,7 @@ source_stops old new source schedule Memory h = h
 
 -- texts without a fault read as records
 records_in : {I R : Type 0} (grammar : Grammar I R) (text : List ℕ) → HasOneAnswer grammar text → ((fault : TextFault) → IsFirstFault grammar text fault → ⊥) → (records : R) × IsReading grammar text records
-records_in grammar text one clean = by_answer one.some where
+records_in {R = R} grammar text one clean = by_answer one.some where
   by_answer : ((records : R) × IsReading grammar text records) ⊎ ((fault : TextFault) × IsFirstFault grammar text fault) → (records : R) × IsReading grammar text records
   by_answer (inl read) = read
   by_answer (inr bad) = absurd (clean bad.0 bad.1)
@@ -75,9 +73,10 @@ records_of one texts sound =
     let nets = records_in _ texts.nets (one.nets texts.nets) sound.nets.clean in
     let weights = weights_in one texts.wts sound.wts in
     let places = records_in _ texts.pl (one.pl texts.pl) sound.pl.clean in
-    let rows = records_in _ texts.scl (one.scl texts.scl) sound.scl.clean in
-    (record { nodes = nodes.0; nets = nets.0; weights = weights.0; places = places.0; rows = rows.0 },
-     record { nodes = nodes.1; nets = nets.1; weights = weights.1; places = places.1; rows = rows.1 })
+    let rows = records_in _ texts.scl (one.scl texts.scl) sound.scl.clean in (
+      record { nodes = nodes.0; nets = nets.0; weights = weights.0; places = places.0; rows = rows.0 },
+      record { nodes = nodes.1; nets = nets.1; weights = weights.1; places = places.1; rows = rows.1 },
+    )
 
 -- behind the source no read fault was counted
 calm_behind : (source : SourceValue) (old mid : FolderState) → HasRead Scl source old mid → mid.read_faults ≡ old.read_faults

@@ -8,7 +8,7 @@ use Rattle.book_files.specs.declared.records.FileKind.TheVariants.{Aux, Nodes, N
 use Rattle.book_files.specs.declared.loading.TheConstants.{MOST_BYTES}
 use Rattle.grid_design.specs.declared.asked.Grid.{Grid}
 use Rattle.grid_design.specs.declared.design.Texts.{Texts as Generated}
-use Rattle.grid_design.specs.Texts.{AreTextsOf, nodes_text, nets_text, wts_text, pl_text, scl_text}
+use Rattle.grid_design.specs.Texts.{AreTextsOf, nodes_text, nets_text, wts_text, pl_text}
 use Rattle.proud_words.specs.Request.{of_design, of_grid}
 use Rattle.proud_top.specs.declared.status.Refusal.{Refusal}
 use Rattle.proud_top.specs.declared.stop.Stop.{Stop}

@@ -15,7 +15,7 @@ use crate::status::Refusal;
 use crate::stop::Stop;
 use book_files::{
     AuxFile, FileKind, LoadError, ReadError, load, one_answer, read_aux, read_nets, read_nodes,
-    read_pl, read_scl, read_schedule, read_wts,
+    read_pl, read_schedule, read_scl, read_wts,
 };
 use book_outer::Folder;
 use book_text::Memory;

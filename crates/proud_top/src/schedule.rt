@@ -1,6 +1,6 @@
 //! The events of a schedule, which is read behind the files of the source.
 
-ghost use Rattle.std.specs.Prelude.{◌≡◌, option_map};
+ghost use Rattle.std.specs.Prelude.{◌≡◌, option_map, string_bytes};
 ghost use Rattle.proud_top.specs.Forms.Schedules.{Names, Follows};
 
 use crate::gather::load_kind;
@@ -14,12 +14,12 @@ use std::alloc::Global;
 pub(crate) fn events_of<F: Folder>(
     alloc: Global,
     folder: &mut F,
-    name: Option<&str>,
+    name: &Option<String>,
 ) -> Result<Option<Events>, Stop>
-    ensures { Names (option_map (λ n. n.now) name.entry) (F.state folder.old) (F.state folder.new) result }
+    ensures { Names (option_map string_bytes name.now) (F.state folder.old) (F.state folder.new) result }
 {
     match name {
-        Some(name) => Ok(Some(read_events(alloc, folder, name)?)),
+        Some(name) => Ok(Some(read_events(alloc, folder, name.as_str())?)),
         None => Ok(None),
     }
 }

@@ -1,6 +1,6 @@
 //! What is placed: the texts of a design's files, or those that a grid makes; and the events of a schedule, where one is named.
 
-ghost use Rattle.std.specs.Prelude.{option_map};
+ghost use Rattle.std.specs.Prelude.{option_map, string_bytes};
 ghost use Rattle.grid_design.specs.Asked.{IsSide};
 ghost use Rattle.proud_words.specs.Asked.{source_value};
 ghost use Rattle.proud_top.specs.Forms.Sources.{HasGoodSides, Takes, TakesSource, Generates, LooksThrough, LooksAt, generated};
@@ -31,10 +31,10 @@ pub(crate) fn take<F: Folder>(
     alloc: Global,
     folder: &mut F,
     source: &Source,
-    schedule: Option<&str>,
+    schedule: &Option<String>,
 ) -> Result<Taken, Stop>
     requires { HasGoodSides (source_value source.now) }
-    ensures { Takes (F.state folder.old) (F.state folder.new) (source_value source.now) (option_map (λ n. n.now) schedule.entry) result }
+    ensures { Takes (F.state folder.old) (F.state folder.new) (source_value source.now) (option_map string_bytes schedule.now) result }
 {
     laws();
     let inputs = take_source(alloc, folder, source)?;

@@ -7,12 +7,12 @@ ghost use Rattle.proud_top.specs.Flow.{PlacedValue, places};
 ghost use Rattle.proud_top.specs.Statuses.{Says, HasNoRequest, IsDone, IsUsage, IsRefused, IsReadFault, IsWriteFault, IsMemory, IsCause, IsPlaceable, AreReadsCalm, AreWritesCalm, ArePutsCalm};
 ghost use Rattle.proud_top.specs.Forms.Stops.{CoversStop, Refuses};
 
-use crate::solver::Solver;
 use crate::deliver::{deliver, put};
 use crate::inputs::Inputs;
 use crate::laws::laws;
 use crate::place::place;
 use crate::refusal::fault_line;
+use crate::solver::Solver;
 use crate::source::take;
 use crate::status::Status;
 use crate::stop::Stop;
@@ -94,7 +94,7 @@ fn run<R: Threads + Sync, F: Folder, S: Sink, G: Gate>(
         Err(WordsFault::Usage) => return put(report, USAGE_LINE, Status::Usage, Status::Usage),
         Err(WordsFault::Memory) => return Status::Memory,
     };
-    let taken = match take(alloc, folder, &request.source, request.schedule.as_deref()) {
+    let taken = match take(alloc, folder, &request.source, &request.schedule) {
         Ok(taken) => taken,
         Err(stop) => return refuse(alloc, report, stop, None),
     };

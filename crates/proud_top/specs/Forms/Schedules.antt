@@ -1,7 +1,6 @@
 -- The reading of the schedule behind the files of the source.
 use Rattle.std.specs.Prelude.{◌≡◌, ℕ, List, Option, Some, None, IfSome, Result, Ok, Err}
 use Rattle.book_outer.specs.Cause.{Rose}
-use Rattle.book_outer.specs.Files.{FileEntry}
 use Rattle.book_outer.specs.State.{FolderState}
 use Rattle.book_files.specs.declared.records.FileKind.TheVariants.{Schedule}
 use Rattle.book_files.specs.declared.schedule.Event.{Event}

@@ -1,4 +1,4 @@
-use Rattle.std.proofs.Common.{ℕ, sym, subst}
+use Rattle.std.proofs.Common.{sym, subst}
 use Rattle.std.specs.List.{count_by}
 use Rattle.book_design.specs.Points.{is_movable}
 use Rattle.level_run.specs.declared.level.Level.{Level}

@@ -1,4 +1,4 @@
-use Rattle.std.proofs.Common.{◌≡◌, Some}
+use Rattle.std.proofs.Common.{◌≡◌}
 use Rattle.std.proofs.lemmas.Result.{err_from_is_err_and}
 use Rattle.proud_top.proofs.Gathering.{weights_next}
 use Rattle.proud_top.proofs.gather.weights_beside.Goals as goal

@@ -1,7 +1,7 @@
-use Rattle.std.proofs.Common.{◌≡◌, ℕ, List, ap, sym}
+use Rattle.std.proofs.Common.{◌≡◌, ap, sym}
 use Rattle.std.specs.Prelude.{Some}
 use Rattle.std.proofs.lemmas.Result.{err_from_is_err_and}
-use Rattle.book_files.specs.declared.records.FileKind.TheVariants.{Nodes, Nets, Wts, Pl, Scl}
+use Rattle.book_files.specs.declared.records.FileKind.TheVariants.{Nodes, Nets, Wts, Pl}
 use Rattle.proud_top.specs.Forms.Sources.{generated}
 use Rattle.proud_top.proofs.Taking.{none_before, one_more, look_stopped, sound_as, looked_through}
 use Rattle.proud_top.proofs.source.look_through.Goals as goal

@@ -41,7 +41,7 @@ returns-in-Ok-place-clause-says g c =
     let request = request_value c.in-Ok.request in
     let D : List ℕ → Type 0 = λ name. Delivers name (placed_value c.in-Ok-place.placed) f' f'' (g.S.Sink.state c.args.report.now) (g.S.Sink.state c.deliver.new.report) c.deliver.result in
     says_delivered c.args.words.now request f f' f'' (g.S.Sink.state c.args.report.now) (g.S.Sink.state c.deliver.new.report) (placed_value c.in-Ok-place.placed) c.deliver.result
-    (placed_at c.args.words.now request f f' _ c.in-Ok-place.placed c.in-Ok.ensures.asked c.in-Ok-take.ensures c.in-Ok-place.ensures)
+    (placed_at c.args.words.now request f f' c.in-Ok-take.taken c.in-Ok-place.placed c.in-Ok.ensures.asked c.in-Ok-take.ensures c.in-Ok-place.ensures)
     c.in-Ok-take.ensures.0 c.deliver.ensures.reads (subst D c.as_str.ensures.value c.deliver.ensures.delivers)
 
 pub returns-in-Ok-place-clause-misused : goal.returns-in-Ok-place-clause-misused
@@ -57,7 +57,7 @@ returns-clause-says g c =
     let request = request_value c.in-Ok.request in
     says_stop c.args.words.now f f' (g.S.Sink.state c.args.report.now) (g.S.Sink.state c.refuse-in-Err-place.new.report) (Some c.in-Ok-take.taken.inputs) c.in-Err-place.stop c.refuse-in-Err-place.result
     c.in-Ok-take.ensures.0
-    (due_place c.args.words.now request f f' _ c.in-Ok.ensures.asked c.in-Ok-take.ensures c.in-Err-place.stop c.in-Err-place.ensures) c.refuse-in-Err-place.ensures
+    (due_place c.args.words.now request f f' c.in-Ok-take.taken c.in-Ok.ensures.asked c.in-Ok-take.ensures c.in-Err-place.stop c.in-Err-place.ensures) c.refuse-in-Err-place.ensures
 
 pub returns-clause-misused : goal.returns-clause-misused
 returns-clause-misused g c none = absurd (none (request_value c.in-Ok.request) c.in-Ok.ensures.asked)

@@ -2,7 +2,6 @@ use Rattle.std.proofs.Common.{◌≡◌, ℕ, List, Err, refl, sym, subst}
 use Rattle.std.specs.Prelude.{Option, option_map}
 use Rattle.book_files.specs.Entries.{WeightEntry}
 use Rattle.std.proofs.lemmas.Result.{err_from_is_err_and}
-use Rattle.book_files.specs.declared.fault.ReadError.TheVariants as read_error
 use Rattle.book_files.specs.NodeRules.{nodes_grammar}
 use Rattle.book_files.specs.NetRules.{nets_grammar}
 use Rattle.book_files.specs.PlaceRules.{places_grammar}

@@ -1,4 +1,4 @@
-use Rattle.std.proofs.Common.{◌∙◌, List, length, sym, ap, subst}
+use Rattle.std.proofs.Common.{◌∙◌, List, sym, ap, subst}
 use Rattle.std.proofs.lemmas.List.{length-map}
 use Rattle.book_files.specs.Entries.{NodeEntry, node_entries}
 use Rattle.book_files.specs.Grammar.{IsReading}
