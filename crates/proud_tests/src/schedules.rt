@@ -105,7 +105,8 @@ const UNREAD: Case = Case {
     ..SCHEDULED
 };
 
-const CASES: [Case; 12] = [
+/// Runs that are done.
+const PLACED: [Case; 4] = [
     SCHEDULED,
     Case {
         schedule: b"",
@@ -134,6 +135,10 @@ const CASES: [Case; 12] = [
         report: b"cells 2 terminals 3 nets 3 pins 7\nlevels 4 gap 1\nwire 37.5\n",
         ..SCHEDULED
     },
+];
+
+/// Runs that end before there is a placement.
+const STOPPED: [Case; 8] = [
     REFUSED,
     Case {
         schedule: b"renew 0 0\n\nrenew 0 4294967296\n",
@@ -186,22 +191,33 @@ const CASES: [Case; 12] = [
     },
 ];
 
-/// No gate is called in any of these runs, and where they are done, each file but the placement is as it was.
+/// Asserts the status, what the output file and the report hold, that the schedule is as it was, and that no gate was called.
+fn assert_scheduled<R: Threads + Abort + Sync>(
+    rt: &R,
+    alloc: Global,
+    case: Case,
+) -> Result<(), Memory> {
+    let files = files_with(alloc, case.texts, case.schedule)?;
+    let mut folder = MemFolder::new(files, calls_of(alloc, case.call)?);
+    let mut report = MemSink::new(alloc, calls_of(alloc, 0)?);
+    let words = words_of(alloc, case.words)?;
+    let gate = Counter::new();
+    let status = proud(rt, alloc, &words, &mut folder, &mut report, &gate);
+    assert_eq!(rt; status, case.status);
+    assert!(rt; report.written() == case.report, "{status:?}");
+    assert!(rt; folder.file("a.proud.pl") == case.file);
+    assert!(rt; folder.file("s") == Some(case.schedule));
+    assert_eq!(rt; gate.passes(), 0);
+    Ok(())
+}
+
 #[test]
 fn schedules_solve_in_place_of_a_crew(rt: HostRuntime) -> Result<(), Fail> {
-    let alloc = rt.alloc();
-    for case in CASES {
-        let files = files_with(alloc, case.texts, case.schedule)?;
-        let mut folder = MemFolder::new(files, calls_of(alloc, case.call)?);
-        let mut report = MemSink::new(alloc, calls_of(alloc, 0)?);
-        let words = words_of(alloc, case.words)?;
-        let gate = Counter::new();
-        let status = proud(&rt, alloc, &words, &mut folder, &mut report, &gate);
-        assert_eq!(rt; status, case.status);
-        assert!(rt; report.written() == case.report, "{status:?}");
-        assert!(rt; folder.file("a.proud.pl") == case.file);
-        assert!(rt; folder.file("s") == Some(case.schedule));
-        assert_eq!(rt; gate.passes(), 0);
+    for case in PLACED {
+        assert_scheduled(&rt, rt.alloc(), case)?;
+    }
+    for case in STOPPED {
+        assert_scheduled(&rt, rt.alloc(), case)?;
     }
     Ok(())
 }
