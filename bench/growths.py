@@ -90,6 +90,8 @@ CASES: Dict[str, Case] = {
     "weights and a macro, one seat": Case("macro_block", ("--seats", "1")),
     "weights and a macro, four seats": Case("macro_block", ("--seats", "4")),
     "a grid, one seat": Case("one_cell", ("--seats", "1", "--grid", "2,2,1")),
+    "a bad schedule": Case("one_cell", ("--schedule", os.path.join(TOP, "designs", "macro_block", "macro_block.aux"))),
+    "an empty schedule, two seats": Case("one_cell", ("--seats", "2", "--schedule", "/dev/null")),
     "other words": Case("one_cell", ("--seats", "0")),
     "a bad line": Case("one_cell", (), (".nodes", b"a 2 10\n", b"a 2\n")),
     "a cell that is too tall": Case("one_cell", (), (".nodes", b"a 2 10\n", b"a 2 11\n")),
