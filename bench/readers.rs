@@ -86,7 +86,7 @@ fn words_in<'a>(words: &mut Vec<&'a [u8]>, line: &'a [u8]) {
     }
 }
 
-fn whole_of(word: &[u8]) -> Result<u64, Kind> {
+pub fn whole_of(word: &[u8]) -> Result<u64, Kind> {
     if word.is_empty() || word.len() > 30 {
         return Err(Kind::BadNumber);
     }
@@ -206,7 +206,7 @@ fn count_of(told: bool, words: &[&[u8]]) -> Result<u64, Kind> {
 }
 
 /// Each line that has words and is no comment, with its number; then the number behind the last line.
-fn each_line<'a>(
+pub fn each_line<'a>(
     text: &'a [u8],
     mut take: impl FnMut(u64, &[&'a [u8]]) -> Result<(), Kind>,
 ) -> Result<u64, Fault> {

@@ -1,4 +1,6 @@
-//! Schedules by hand in plain Rust, as `proud --schedule` reads and plays them.
+//! Schedules by hand in plain Rust, as `proud --schedule` reads them.
+
+use crate::readers::{Fault, Kind, each_line, whole_of};
 
 /// A load or a renewal by a seat at a point. Neither need be there.
 #[derive(Clone, Copy)]
@@ -8,47 +10,33 @@ pub struct Event {
     pub point: u32,
 }
 
-/// The events of a schedule; none where a line is no event.
-pub fn read_schedule(text: &[u8]) -> Option<Vec<Event>> {
+/// The events of a schedule, or its first line that is none.
+pub fn read_schedule(text: &[u8]) -> Result<Vec<Event>, Fault> {
     let mut events = Vec::new();
-    for line in text.split(|byte| *byte == b'\n') {
-        let mut words = line
-            .split(|byte| matches!(byte, b' ' | b'\t' | b'\r'))
-            .filter(|word| !word.is_empty());
-        let Some(first) = words.next() else {
-            continue;
-        };
-        if first[0] == b'#' {
-            continue;
-        }
-        let renews = first.eq_ignore_ascii_case(b"renew");
-        let (Some(seat), Some(point), None) = (words.next(), words.next(), words.next()) else {
-            return None;
-        };
-        if !renews && !first.eq_ignore_ascii_case(b"load") {
-            return None;
-        }
-        events.push(Event {
-            renews,
-            seat: number(seat)?,
-            point: number(point)?,
-        });
-    }
-    Some(events)
+    each_line(text, |_, words| {
+        events.push(event_of(words)?);
+        Ok(())
+    })?;
+    Ok(events)
 }
 
-/// The number of a word of digits.
-fn number(word: &[u8]) -> Option<u32> {
-    if word.len() > 30 {
-        return None;
+fn event_of(words: &[&[u8]]) -> Result<Event, Kind> {
+    let [keyword, seat, point] = words else {
+        return Err(Kind::BadLine);
+    };
+    let renews = keyword.eq_ignore_ascii_case(b"renew");
+    if !renews && !keyword.eq_ignore_ascii_case(b"load") {
+        return Err(Kind::BadLine);
     }
-    let mut number: u64 = 0;
-    for byte in word {
-        let digit = byte.wrapping_sub(b'0');
-        if digit > 9 || number > u64::from(u32::MAX) {
-            return None;
-        }
-        number = number * 10 + u64::from(digit);
-    }
-    u32::try_from(number).ok()
+    Ok(Event {
+        renews,
+        seat: number_of(seat)?,
+        point: number_of(point)?,
+    })
+}
+
+/// The number of a whole word that fits.
+fn number_of(word: &[u8]) -> Result<u32, Kind> {
+    let number = whole_of(word).map_err(|_| Kind::BadLine)?;
+    u32::try_from(number).map_err(|_| Kind::BadLine)
 }
