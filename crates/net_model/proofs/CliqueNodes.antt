@@ -1,9 +1,11 @@
 -- The first pins of a net: they stand at different nodes, and at exactly the nodes of all its pins.
 use Rattle.std.proofs.Common.{◌≡◌, ℕ, zero, suc, ◌<◌, Bool, true, false, not, ◌||◌, cond, List, [], ◌∷◌, length, get_or, take, refl, sym, ◌∙◌, ap, arith}
 use Rattle.std.specs.Prelude.{◌==◌, filter, All, pos, slice_index_or}
-use Rattle.std.proofs.lemmas.Bool.{eqb-true, eq-eqb, both_ways, or_parts, false_from_ne_true}
+use Rattle.std.specs.List.{list_any}
+use Rattle.std.proofs.lemmas.Bool.{eqb-true, eq-eqb, ne_eqb, both_ways, or_parts, false_from_ne_true}
 use Rattle.std.proofs.lemmas.List.Elements.{All-cons, All-head, All-tail, All-filter}
 use Rattle.std.proofs.lemmas.List.Folds.{list_any_at}
+use Rattle.std.proofs.lemmas.Map.Views.{any-filter_same}
 use Rattle.book_design.specs.declared.parts.Pin.{Pin}
 use Rattle.net_model.specs.Clique.{first_pins}
 use Rattle.net_model.specs.Forms.Joining.{is_at, AreDistinct}
@@ -17,9 +19,6 @@ pin_at pins k = slice_index_or pins k (record { node = 0; dx = pos 0; dy = pos 0
 abbrev pub without : ℕ → List Pin → List Pin
 without i pins = filter (λ pin. not (pin.node == i)) pins
 
-same_test : (i j : ℕ) → (i == j) ≡ (j == i)
-same_test i j = grind arith
-
 -- leaving out the pins of one node leaves none of it
 none_by_test : (i : ℕ) (pin : Pin) (pins : List Pin) (b : Bool) → (pin.node == i) ≡ b → is_at pins i ≡ false
     → is_at (cond (not b) (pin ∷ pins) pins) i ≡ false
@@ -29,20 +28,6 @@ none_by_test i pin pins false e none = ap (λ b. b || is_at pins i) e ∙ none
 pub none_without : (i : ℕ) (pins : List Pin) → is_at (without i pins) i ≡ false
 none_without i [] = refl
 none_without i (pin ∷ pins) = none_by_test i pin (without i pins) (pin.node == i) refl (none_without i pins)
-
--- and all of the others
-others_by_test : (i j : ℕ) (pin : Pin) (pins rest : List Pin) (b : Bool) → (j == i) ≡ false → (pin.node == i) ≡ b
-    → is_at rest j ≡ is_at pins j → is_at (cond (not b) (pin ∷ rest) rest) j ≡ ((pin.node == j) || is_at pins j)
-others_by_test i j pin pins rest true other e same =
-    let at : pin.node ≡ i = eqb-true pin.node i e in
-    let apart : (pin.node == j) ≡ false = ap (λ k. k == j) at ∙ same_test i j ∙ other in
-    same ∙ sym (ap (λ b. b || is_at pins j) apart)
-others_by_test i j pin pins rest false other e same = ap (λ b. (pin.node == j) || b) same
-
-pub others_without : (i j : ℕ) (pins : List Pin) → (j == i) ≡ false → is_at (without i pins) j ≡ is_at pins j
-others_without i j [] other = refl
-others_without i j (pin ∷ pins) other =
-    others_by_test i j pin pins (without i pins) (pin.node == i) other refl (others_without i j pins other)
 
 -- what no pin has, none of some of them has
 fewer_by_test : (i j : ℕ) (pin : Pin) (rest : List Pin) (b : Bool) → (pin.node == j) ≡ false → is_at rest j ≡ false
@@ -88,15 +73,22 @@ before_none (pin ∷ pins) (suc k) d i distinct inside e =
     (λ same. both_ways (is_at pins pin.node) distinct.0 (ap (is_at pins) (eqb-true pin.node i same) ∙ there)) in
     ap (λ b. b || is_at (take k pins) i) apart ∙ before_none pins k d i distinct.1 inner e
 
--- the first pins are at exactly the nodes of all pins
-joined_by_test : (i : ℕ) (pin : Pin) (pins first : List Pin) (b : Bool) → (pin.node == i) ≡ b → is_at first i ≡ is_at pins i
-    → (b || is_at (without pin.node first) i) ≡ (b || is_at pins i)
-joined_by_test i pin pins first true e same = refl
-joined_by_test i pin pins first false e same = others_without pin.node i first (same_test i pin.node ∙ e) ∙ same
+-- a test of nodes passes at a first pin where it passes at a pin
+any_by_test : (p : ℕ → Bool) (pin : Pin) (pins first : List Pin) (b : Bool) → p pin.node ≡ b → list_any (λ (other : Pin). p other.node) first ≡ list_any (λ (other : Pin). p other.node) pins
+    → (b || list_any (λ (other : Pin). p other.node) (without pin.node first)) ≡ (b || list_any (λ (other : Pin). p other.node) pins)
+any_by_test p pin pins first true e same = refl
+any_by_test p pin pins first false e same =
+    any-filter_same (λ (other : Pin). p other.node) (λ (other : Pin). not (other.node == pin.node)) true apart first ∙ same where
+      apart : (other : Pin) → p other.node ≡ true → not (other.node == pin.node) ≡ true
+      apart other passes = ap not (ne_eqb other.node pin.node (λ at. both_ways (p pin.node) e (sym (ap p at) ∙ passes)))
 
+pub any_first : (p : ℕ → Bool) (pins : List Pin) → list_any (λ (pin : Pin). p pin.node) (first_pins pins) ≡ list_any (λ (pin : Pin). p pin.node) pins
+any_first p [] = refl
+any_first p (pin ∷ pins) = any_by_test p pin pins (first_pins pins) (p pin.node) refl (any_first p pins)
+
+-- the first pins are at exactly the nodes of all pins
 pub joined_first : (pins : List Pin) (i : ℕ) → is_at (first_pins pins) i ≡ is_at pins i
-joined_first [] i = refl
-joined_first (pin ∷ pins) i = joined_by_test i pin pins (first_pins pins) (pin.node == i) refl (joined_first pins i)
+joined_first pins i = any_first (λ node. node == i) pins
 
 -- what holds of each pin holds of each first pin
 pub All_first : (P : Pin → Type 0) (pins : List Pin) → All P pins → All P (first_pins pins)

@@ -1,7 +1,9 @@
 -- How many terms a net has, and the sum of them over the nets so far.
-use Rattle.std.proofs.Common.{◌≡◌, ℕ, ◌+◌, ◌-◌, ◌*◌, ◌<◌, ◌≤◌, Bool, not, List, [], length, get_or, take, sym, ◌∙◌, ap, subst, arith, below_more}
-use Rattle.std.specs.Prelude.{filter, sum_by}
+use Rattle.std.proofs.Common.{◌≡◌, ◌⊎◌, inl, inr, ℕ, ◌+◌, ◌-◌, ◌*◌, ◌/◌, ◌<◌, ◌≤◌, Bool, true, not, cond, eqb, ltb, List, [], ◌∷◌, ◌++◌, length, get_or, take, sym, ◌∙◌, ap, subst, arith}
+use Rattle.std.specs.Prelude.{◌&&◌, ◌==◌, filter, sum_by}
+use Rattle.std.specs.List.{range_with_len}
 use Rattle.std.proofs.lemmas.Nat.{mul-le}
+use Rattle.std.proofs.lemmas.Bool.{and_parts, and_right, cases_lt, lt-ltb}
 use Rattle.std.proofs.lemmas.List.{get_or-map, length-map}
 use Rattle.std.proofs.lemmas.List.Elements.{All-weaker, All-from_recursion}
 use Rattle.std.proofs.lemmas.List.Sums.{length-filter, count_by-le-length, sum_by_more}
@@ -11,10 +13,14 @@ use Rattle.book_design.specs.Values.{NetValue, DesignValue}
 use Rattle.book_design.specs.Nets.{net_value, net_values}
 use Rattle.book_design.specs.Points.{is_movable}
 use Rattle.book_design.specs.WellFormed.{IsGoodPin, IsGoodNet, IsDesign}
-use Rattle.net_model.specs.declared.limits.TheConstants.{MOST_NET_NODES}
-use Rattle.net_model.specs.Clique.{first_pins, degree}
-use Rattle.net_model.specs.Network.{node_at, net_at, pairs, terms_of, IsTooWide}
+use Rattle.net_model.specs.declared.limits.TheConstants.{NET_WEIGHT, MOST_CLIQUE}
+use Rattle.net_model.specs.Clique.{first_pins, degree, share}
+use Rattle.net_model.specs.Network.{pairs, terms_of, fixed_pins, spokes_of, terms_in_pairs}
+use Rattle.net_model.specs.Numbered.{node_at, net_at}
+use Rattle.net_model.specs.Star.{has_movable, is_wide}
 use Rattle.net_model.specs.Forms.Steps.{AreAtNodes}
+use Rattle.net_model.proofs.CliqueNodes.{first_there}
+use Rattle.net_model.proofs.Ranges.{kept_more}
 
 -- what stands past the last net
 abbrev pub no_net : NetValue
@@ -42,6 +48,11 @@ pub net_there : (nodes : ℕ) (net : NetValue) → IsGoodNet nodes net → AreAt
 net_there nodes net good =
     All-weaker (IsGoodPin nodes) (λ pin. pin.node < nodes) (pins_there nodes) net.pins (All-from_recursion (IsGoodPin nodes) net.pins good.pins)
 
+pub members_there : (nodes : ℕ) (net : NetValue) (first : List Pin) → IsGoodNet nodes net → first ≡ first_pins net.pins → AreAtNodes nodes first
+members_there nodes net first good e =
+    let P : List Pin → Type 0 = AreAtNodes nodes in
+    subst P (sym e) (first_there nodes net.pins (net_there nodes net good))
+
 -- the net that a loop reads
 pub net_here : (design : DesignValue) (nets : List Net) (n : ℕ) (d net : Net) → net_values nets ≡ design.nets → n < length nets → net ≡ get_or nets n d
     → net_at design n ≡ net_value net
@@ -58,16 +69,60 @@ good_net design nets n d net valid e inside read =
     let P : NetValue → Type 0 = IsGoodNet (length design.nodes) in
     subst P (net_here design nets n d net e inside read) (All-from_recursion P design.nets valid.nets n no_net (net_inside design nets n e inside))
 
--- one more net that isn't too wide
-pub narrow_more : (design : DesignValue) (n : ℕ) (net : NetValue) → net_at design n ≡ net → length (first_pins net.pins) ≤ MOST_NET_NODES
-    → ((m : ℕ) → m < n → IsTooWide design m → ⊥) → (m : ℕ) → m < n + 1 → IsTooWide design m → ⊥
-narrow_more design n net e few before = below_more (λ m. IsTooWide design m → ⊥) n before here where
-  here : IsTooWide design n → ⊥
-  here wide = let P : NetValue → Type 0 = λ v. MOST_NET_NODES < degree v in let more : MOST_NET_NODES < length (first_pins net.pins) = subst P e wide.1 in absurd (omega arith)
+abbrev pub pin_count : NetValue → ℕ
+pin_count net = length net.pins
 
-pub terms_more : (design : DesignValue) (n : ℕ) (net : NetValue) (total more : ℕ) → net_at design n ≡ net → n < length design.nets
-    → total ≡ sum_by (terms_of design) (take n design.nets) → more ≡ terms_of design net
-    → total + more ≡ sum_by (terms_of design) (take (n + 1) design.nets)
-terms_more design n net total more e inside so_far new =
-    let here : more ≡ terms_of design (net_at design n) = new ∙ ap (terms_of design) (sym e) in
-    omega (arith, sum_by_more (terms_of design) design.nets n no_net inside, so_far, here)
+-- the wide nets among the first so many
+abbrev pub wide_up_to : DesignValue → ℕ → List ℕ
+wide_up_to design n = filter (λ m. is_wide design (net_at design m)) (range_with_len 0 n)
+
+-- a wide net is no clique, and has a term for each of its nodes
+no_share : (d w : ℕ) → ltb MOST_CLIQUE d ≡ true → cond (ltb 1 d && not (ltb MOST_CLIQUE d)) (NET_WEIGHT * w / (d - 1)) 0 ≡ 0
+no_share d w many = ap (λ c. cond c (NET_WEIGHT * w / (d - 1)) 0) (and_right (ltb 1 d) (not (ltb MOST_CLIQUE d)) (ap not many))
+
+pub wide_terms : (design : DesignValue) (net : NetValue) → is_wide design net ≡ true → terms_in_pairs design net ≡ degree net
+wide_terms design net wide =
+    let many = (and_parts (ltb MOST_CLIQUE (degree net)) (ltb 0 net.weight && has_movable design net) wide).0 in
+    let none : cond (eqb (share net) 0) 0 (pairs (degree net) - pairs (length (fixed_pins design net))) ≡ 0 =
+    ap (λ s. cond {A = ℕ} (eqb s 0) 0 (pairs (degree net) - pairs (length (fixed_pins design net)))) (no_share (degree net) net.weight many) in
+    let spokes : spokes_of design net ≡ degree net = ap (λ b. cond {A = ℕ} b (degree net) 0) wide in
+    omega (arith, none, spokes)
+
+-- where a pair has a weight, the nodes are few enough
+pub few_members : (d w s : ℕ) → s ≡ cond (ltb 1 d && not (ltb MOST_CLIQUE d)) (NET_WEIGHT * w / (d - 1)) 0 → (s ≡ 0 → ⊥) → d ≤ MOST_CLIQUE
+few_members d w s e some = by_cases (cases_lt MOST_CLIQUE d) where
+  by_cases : (MOST_CLIQUE < d) ⊎ (d ≤ MOST_CLIQUE) → d ≤ MOST_CLIQUE
+  by_cases (inl many) = absurd (some (e ∙ no_share d w (lt-ltb MOST_CLIQUE d many)))
+  by_cases (inr few) = few
+
+-- a net with many nodes and a weight is wide where it has a movable node
+pub wide_by : (design : DesignValue) (net : NetValue) → ltb MOST_CLIQUE (degree net) ≡ true → ltb 0 net.weight ≡ true → is_wide design net ≡ has_movable design net
+wide_by design net many heavy =
+    ap (λ b. b && (ltb 0 net.weight && has_movable design net)) many ∙ ap (λ b. b && has_movable design net) heavy
+
+-- it has no more nodes than pins
+pub few_first : (pins : List Pin) → length (first_pins pins) ≤ length pins
+few_first [] = omega arith
+few_first (pin ∷ pins) = omega (
+  arith,
+  length-filter (λ (other : Pin). not (other.node == pin.node)) (first_pins pins),
+  count_by-le-length (λ (other : Pin). not (other.node == pin.node)) (first_pins pins),
+  few_first pins,
+)
+
+-- the terms and the wide nets of so many nets, with a bound on the terms
+pub record AreCounted (design : DesignValue) (n total : ℕ) (stars : List ℕ) : Type 0 where
+  pub terms : total ≡ sum_by (terms_of design) (take n design.nets)
+  pub few : total ≤ n * pairs MOST_CLIQUE + sum_by pin_count (take n design.nets)
+  pub wide : stars ≡ wide_up_to design n
+
+-- with one net more
+pub counted_more : (design : DesignValue) (n : ℕ) (net : NetValue) (total more : ℕ) (stars : List ℕ) (b : Bool) → net_at design n ≡ net → n < length design.nets
+    → is_wide design net ≡ b → more ≡ terms_of design net → more ≤ pairs MOST_CLIQUE + pin_count net
+    → AreCounted design n total stars → AreCounted design (n + 1) (total + more) (stars ++ cond b (n ∷ []) [])
+counted_more design n net total more stars b here inside test new small so_far = record {
+  terms = omega (arith, sum_by_more (terms_of design) design.nets n no_net inside, so_far.terms, ap (terms_of design) here, new);
+  few = omega (arith, sum_by_more pin_count design.nets n no_net inside, so_far.few, ap pin_count here, small);
+  wide = ap (λ ns. ns ++ cond b (n ∷ []) []) so_far.wide ∙ sym (kept_more (λ m. is_wide design (net_at design m)) n
+      ∙ ap (λ c. wide_up_to design n ++ cond c (n ∷ []) []) (ap (is_wide design) here ∙ test));
+}

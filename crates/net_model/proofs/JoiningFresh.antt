@@ -10,7 +10,7 @@ use Rattle.book_design.specs.Values.{NodeValue, DesignValue, node_value, node_va
 use Rattle.book_design.specs.Points.{is_movable, node_value_at, movable_before, site_count, IsNodeOf}
 use Rattle.net_model.specs.declared.point.NetPoint.{NetPoint}
 use Rattle.net_model.specs.Values.{PointValue, point_at, point_entry, point_values}
-use Rattle.net_model.specs.Network.{node_at, node_of, point_nodes}
+use Rattle.net_model.specs.Numbered.{node_at, node_of, point_nodes}
 use Rattle.net_model.specs.Forms.Steps.{IsJoined, AreJoined}
 use Rattle.net_model.proofs.Movable.{no_node, stands_at_point, count_movable}
 use Rattle.net_model.proofs.JoiningPins.{node_is}

@@ -10,8 +10,8 @@ use Rattle.book_design.specs.Values.{DesignValue}
 use Rattle.book_design.specs.Points.{is_movable, movable_before}
 use Rattle.net_model.specs.declared.point.NetPoint.{NetPoint}
 use Rattle.net_model.specs.Values.{PointValue, point_at, point_entry, point_values}
-use Rattle.net_model.specs.Network.{node_at, node_of, point_nodes}
-use Rattle.net_model.specs.Forms.Joining.{is_at, AreDistinct, paired_point, ArePaired}
+use Rattle.net_model.specs.Numbered.{node_at, node_of, point_nodes}
+use Rattle.net_model.specs.Forms.Joining.{is_at, AreDistinct}
 use Rattle.net_model.proofs.CliqueNodes.{pin_at, before_none}
 use Rattle.net_model.proofs.Movable.{IsMovableNode, StandsAtPoint, each_movable, stands_at_point}
 
@@ -44,18 +44,19 @@ has_point design i point is = point_by_test design i point (node_at design i).fi
 pub point_inside : (design : DesignValue) (i point : ℕ) → i < length design.nodes → HasPoint design i point → point < length (point_nodes design)
 point_inside design i point inside h = let stands = own_point design i inside h.movable in omega (arith, h.number, stands.inside)
 
--- a point by whether its node is seen
-abbrev pub by_seen : DesignValue → ℕ → List Pin → ℕ → PointValue → Bool → PointValue
-by_seen design weight pins i point seen = cond seen (paired_point design weight pins i point) point
+-- a point that is given something where its node is seen
+abbrev pub by_seen : (ℕ → PointValue → PointValue) → ℕ → PointValue → Bool → PointValue
+by_seen give i point seen = cond seen (give i point) point
 
--- after some of the members: the points whose nodes have one of the pins `at` are in pairs, the others are as they were
-pub record ArePairedAt (design : DesignValue) (weight : ℕ) (pins at : List Pin) (old new : List PointValue) : Type 0 where
+-- after some of the members: the points whose nodes have one of the pins `at` are given something, the others are as they were
+pub record AreGivenAt (design : DesignValue) (give : ℕ → PointValue → PointValue) (at : List Pin) (old new : List PointValue) : Type 0 where
   pub all : length new ≡ length old
-  pub each : (p : ℕ) → p < length (point_nodes design) → point_at new p ≡ by_seen design weight pins (node_of design p) (point_at old p) (is_at at (node_of design p))
+  pub each : (p : ℕ) → p < length (point_nodes design) → point_at new p ≡ by_seen give (node_of design p) (point_at old p) (is_at at (node_of design p))
+  pub others : (p : ℕ) → length (point_nodes design) ≤ p → point_at new p ≡ point_at old p
 
 -- no member is seen yet
-pub paired_first : (design : DesignValue) (weight : ℕ) (pins : List Pin) (points : List PointValue) → ArePairedAt design weight pins [] points points
-paired_first design weight pins points = record { all = refl; each = λ p less. refl }
+pub given_first : (design : DesignValue) (give : ℕ → PointValue → PointValue) (points : List PointValue) → AreGivenAt design give [] points points
+given_first design give points = record { all = refl; each = λ p less. refl; others = λ p less. refl }
 
 seen_more : (pins : List Pin) (k i : ℕ) → k < length pins → is_at (take (k + 1) pins) i ≡ (is_at (take k pins) i || nat_eq (pin_at pins k).node i)
 seen_more pins k i less = list_any_more (λ (pin : Pin). pin.node == i) pins k (pin_at [] 0) less
@@ -65,48 +66,50 @@ unseen_more : (pins : List Pin) (k i : ℕ) → k < length pins → (pin_at pins
 unseen_more pins k i less other =
     seen_more pins k i less ∙ ap (λ b. is_at (take k pins) i || b) (ne_eqb (pin_at pins k).node i other) ∙ or-false (is_at (take k pins) i)
 
-other_point : (design : DesignValue) (weight : ℕ) (pins : List Pin) (k : ℕ) (old new : List PointValue) (p : ℕ) → k < length pins
+other_point : (design : DesignValue) (give : ℕ → PointValue → PointValue) (pins : List Pin) (k : ℕ) (old new : List PointValue) (p : ℕ) → k < length pins
     → (pin_at pins k).node ≢ node_of design p
-    → point_at new p ≡ by_seen design weight pins (node_of design p) (point_at old p) (is_at (take k pins) (node_of design p))
-    → point_at new p ≡ by_seen design weight pins (node_of design p) (point_at old p) (is_at (take (k + 1) pins) (node_of design p))
-other_point design weight pins k old new p less other before =
-    before ∙ ap (by_seen design weight pins (node_of design p) (point_at old p)) (sym (unseen_more pins k (node_of design p) less other))
+    → point_at new p ≡ by_seen give (node_of design p) (point_at old p) (is_at (take k pins) (node_of design p))
+    → point_at new p ≡ by_seen give (node_of design p) (point_at old p) (is_at (take (k + 1) pins) (node_of design p))
+other_point design give pins k old new p less other before =
+    before ∙ ap (by_seen give (node_of design p) (point_at old p)) (sym (unseen_more pins k (node_of design p) less other))
 
 -- a fixed member has no point
-pub paired_fixed : (design : DesignValue) (weight : ℕ) (pins : List Pin) (k : ℕ) (start points : List PointValue) → k < length pins
-    → is_movable (node_at design (pin_at pins k).node) ≡ false → ArePairedAt design weight pins (take k pins) start points
-    → ArePairedAt design weight pins (take (k + 1) pins) start points
-paired_fixed design weight pins k start points less fixed before = record {
+pub given_fixed : (design : DesignValue) (give : ℕ → PointValue → PointValue) (pins : List Pin) (k : ℕ) (start points : List PointValue) → k < length pins
+    → is_movable (node_at design (pin_at pins k).node) ≡ false → AreGivenAt design give (take k pins) start points
+    → AreGivenAt design give (take (k + 1) pins) start points
+given_fixed design give pins k start points less fixed before = record {
   all = before.all;
-  each = λ p inside. other_point design weight pins k start points p less
+  each = λ p inside. other_point design give pins k start points p less
       (λ same. false≢true (sym fixed ∙ ap (λ i. is_movable (node_at design i)) same ∙ (own_node design p inside).movable))
       (before.each p inside);
+  others = before.others;
 }
 
 -- a movable member's point is written
-here_paired : (design : DesignValue) (weight : ℕ) (pins : List Pin) (k q : ℕ) (start points : List PointValue) (point : PointValue) → k < length pins
-    → q < length points → node_of design q ≡ (pin_at pins k).node → is_at (take k pins) (pin_at pins k).node ≡ false
-    → point ≡ paired_point design weight pins (pin_at pins k).node (point_at points q)
-    → point_at points q ≡ by_seen design weight pins (node_of design q) (point_at start q) (is_at (take k pins) (node_of design q))
-    → point_at (set points q point) q ≡ by_seen design weight pins (node_of design q) (point_at start q) (is_at (take (k + 1) pins) (node_of design q))
-here_paired design weight pins k q start points point less inside own unseen is before =
+here_given : (design : DesignValue) (give : ℕ → PointValue → PointValue) (pins : List Pin) (k q : ℕ) (start points : List PointValue) (point : PointValue)
+    → k < length pins → q < length points → node_of design q ≡ (pin_at pins k).node → is_at (take k pins) (pin_at pins k).node ≡ false
+    → point ≡ give (pin_at pins k).node (point_at points q)
+    → point_at points q ≡ by_seen give (node_of design q) (point_at start q) (is_at (take k pins) (node_of design q))
+    → point_at (set points q point) q ≡ by_seen give (node_of design q) (point_at start q) (is_at (take (k + 1) pins) (node_of design q))
+here_given design give pins k q start points point less inside own unseen is before =
     let seen : is_at (take (k + 1) pins) (node_of design q) ≡ true =
     ap (is_at (take (k + 1) pins)) own ∙ seen_more pins k (pin_at pins k).node less
     ∙ ap (λ b. b || nat_eq (pin_at pins k).node (pin_at pins k).node) unseen ∙ eq-eqb (pin_at pins k).node (pin_at pins k).node refl in
     let old : point_at points q ≡ point_at start q =
-    before ∙ ap (by_seen design weight pins (node_of design q) (point_at start q)) (ap (is_at (take k pins)) own ∙ unseen) in
+    before ∙ ap (by_seen give (node_of design q) (point_at start q)) (ap (is_at (take k pins)) own ∙ unseen) in
     get_or-set_same points q point no_point inside ∙ is
-    ∙ ap (λ i. paired_point design weight pins i (point_at points q)) (sym own)
-    ∙ ap (paired_point design weight pins (node_of design q)) old
-    ∙ ap (by_seen design weight pins (node_of design q) (point_at start q)) (sym seen)
+    ∙ ap (λ i. give i (point_at points q)) (sym own)
+    ∙ ap (give (node_of design q)) old
+    ∙ ap (by_seen give (node_of design q) (point_at start q)) (sym seen)
 
-pub paired_movable : (design : DesignValue) (weight : ℕ) (pins : List Pin) (k q : ℕ) (start points : List PointValue) (point : PointValue) → k < length pins
-    → (pin_at pins k).node < length design.nodes → length start ≡ length (point_nodes design) → HasPoint design (pin_at pins k).node q → AreDistinct pins
-    → point ≡ paired_point design weight pins (pin_at pins k).node (point_at points q) → ArePairedAt design weight pins (take k pins) start points
-    → ArePairedAt design weight pins (take (k + 1) pins) start (set points q point)
-paired_movable design weight pins k q start points point less there counted has distinct is before = record {
+pub given_movable : (design : DesignValue) (give : ℕ → PointValue → PointValue) (pins : List Pin) (k q : ℕ) (start points : List PointValue) (point : PointValue)
+    → k < length pins → (pin_at pins k).node < length design.nodes → length (point_nodes design) ≤ length start → HasPoint design (pin_at pins k).node q
+    → AreDistinct pins → point ≡ give (pin_at pins k).node (point_at points q) → AreGivenAt design give (take k pins) start points
+    → AreGivenAt design give (take (k + 1) pins) start (set points q point)
+given_movable design give pins k q start points point less there counted has distinct is before = record {
   all = length-set points q point ∙ before.all;
   each = λ p below. by_place p below (cases_eq p q);
+  others = λ p above. get_or-set_other points q p point no_point (λ same. absurd (omega (arith, same, above, within))) ∙ before.others p above;
 } where
   i : ℕ
   i = (pin_at pins k).node
@@ -118,11 +121,11 @@ paired_movable design weight pins k q start points point less there counted has 
   own = ap (node_of design) has.number ∙ (own_point design i there has.movable).there
 
   by_place : (p : ℕ) → p < length (point_nodes design) → (p ≡ q) ⊎ (p ≡ q → ⊥)
-      → point_at (set points q point) p ≡ by_seen design weight pins (node_of design p) (point_at start p) (is_at (take (k + 1) pins) (node_of design p))
+      → point_at (set points q point) p ≡ by_seen give (node_of design p) (point_at start p) (is_at (take (k + 1) pins) (node_of design p))
   by_place p below (inl same) =
-      let P : ℕ → Type 0 = λ j. point_at (set points q point) j ≡ by_seen design weight pins (node_of design j) (point_at start j) (is_at (take (k + 1) pins) (node_of design j)) in
-      subst P (sym same) (here_paired design weight pins k q start points point less (omega (arith, before.all, counted, within)) own (before_none pins k (pin_at [] 0) i distinct less refl) is (before.each q within))
-  by_place p below (inr other) = other_point design weight pins k start (set points q point) p less
+      let P : ℕ → Type 0 = λ j. point_at (set points q point) j ≡ by_seen give (node_of design j) (point_at start j) (is_at (take (k + 1) pins) (node_of design j)) in
+      subst P (sym same) (here_given design give pins k q start points point less (omega (arith, before.all, counted, within)) own (before_none pins k (pin_at [] 0) i distinct less refl) is (before.each q within))
+  by_place p below (inr other) = other_point design give pins k start (set points q point) p less
       (λ e. other (sym (has.number ∙ ap (movable_before design.nodes) e ∙ (own_node design p below).number)))
       (get_or-set_other points q p point no_point other ∙ before.each p below)
 
@@ -134,23 +137,19 @@ pub entry_at : (points : List NetPoint) (q : ℕ) (d : NetPoint) → q < length 
 entry_at points q d inside = get_or-map point_entry points q d no_point inside
 
 -- a movable member's point is written, as it lies in memory
-pub paired_entry : (design : DesignValue) (weight : ℕ) (pins : List Pin) (k q : ℕ) (start points new : List NetPoint) (d point : NetPoint) → k < length pins
-    → (pin_at pins k).node < length design.nodes → length start ≡ length (point_nodes design) → HasPoint design (pin_at pins k).node q → AreDistinct pins
-    → point_entry point ≡ paired_point design weight pins (pin_at pins k).node (point_entry (get_or points q d)) → new ≡ set points q point
-    → length points ≡ length start → ArePairedAt design weight pins (take k pins) (point_values start) (point_values points)
-    → ArePairedAt design weight pins (take (k + 1) pins) (point_values start) (point_values new)
-paired_entry design weight pins k q start points new d point less there counted has distinct is written same before =
+pub given_entry : (design : DesignValue) (give : ℕ → PointValue → PointValue) (pins : List Pin) (k q : ℕ) (start points new : List NetPoint) (d point : NetPoint)
+    → k < length pins → (pin_at pins k).node < length design.nodes → length (point_nodes design) ≤ length start → HasPoint design (pin_at pins k).node q
+    → AreDistinct pins → point_entry point ≡ give (pin_at pins k).node (point_entry (get_or points q d)) → new ≡ set points q point
+    → length points ≡ length start → AreGivenAt design give (take k pins) (point_values start) (point_values points)
+    → AreGivenAt design give (take (k + 1) pins) (point_values start) (point_values new)
+given_entry design give pins k q start points new d point less there counted has distinct is written same before =
     let inside : q < length points = omega (arith, same, counted, point_inside design (pin_at pins k).node q there has) in
-    let P : List PointValue → Type 0 = ArePairedAt design weight pins (take (k + 1) pins) (point_values start) in
+    let P : List PointValue → Type 0 = AreGivenAt design give (take (k + 1) pins) (point_values start) in
     subst P (sym (ap point_values written ∙ entries_set points q point))
-    (paired_movable design weight pins k q (point_values start) (point_values points) (point_entry point) less there (length-map start point_entry ∙ counted) has distinct
-    (is ∙ ap (paired_point design weight pins (pin_at pins k).node) (sym (entry_at points q d inside))) before)
+    (given_movable design give pins k q (point_values start) (point_values points) (point_entry point) less there (omega (arith, length-map start point_entry, counted)) has distinct
+    (is ∙ ap (give (pin_at pins k).node) (sym (entry_at points q d inside))) before)
 
 -- all members are seen
-pub paired_last : (design : DesignValue) (weight : ℕ) (pins : List Pin) (k : ℕ) (start points : List PointValue) → length pins ≤ k
-    → ArePairedAt design weight pins (take k pins) start points → ArePaired design weight pins start points
-paired_last design weight pins k start points end h = record {
-  all = h.all;
-  each = λ p less.
-      h.each p less ∙ ap (λ at. by_seen design weight pins (node_of design p) (point_at start p) (is_at at (node_of design p))) (take_all k pins end);
-}
+pub given_last : (design : DesignValue) (give : ℕ → PointValue → PointValue) (pins : List Pin) (k : ℕ) (start points : List PointValue) → length pins ≤ k
+    → AreGivenAt design give (take k pins) start points → AreGivenAt design give pins start points
+given_last design give pins k start points end h = let P : List Pin → Type 0 = λ at. AreGivenAt design give at start points in subst P (take_all k pins end) h

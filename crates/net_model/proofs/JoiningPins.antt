@@ -12,7 +12,7 @@ use Rattle.book_design.specs.Points.{is_movable, node_value_at, movable_before}
 use Rattle.net_model.specs.declared.parts.Near.{Near}
 use Rattle.net_model.specs.declared.parts.FixedPin.{FixedPin}
 use Rattle.net_model.specs.Values.{PointValue}
-use Rattle.net_model.specs.Network.{node_at}
+use Rattle.net_model.specs.Numbered.{node_at}
 use Rattle.net_model.specs.Forms.Joining.{fixed_pin, paired_near, paired_pin, paired_point}
 use Rattle.net_model.proofs.Movable.{no_node}
 

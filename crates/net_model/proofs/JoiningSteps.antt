@@ -1,5 +1,5 @@
 -- The points by the nets before one net, and behind it.
-use Rattle.std.proofs.Common.{◌≡◌, ℕ, ◌+◌, ◌-◌, ◌*◌, ◌/◌, ◌<◌, ◌≤◌, Bool, true, false, cond, List, [], ◌∷◌, ◌++◌, length, get_or, take, refl, sym, ◌∙◌, ap, subst, arith}
+use Rattle.std.proofs.Common.{◌≡◌, ℕ, ◌+◌, ◌-◌, ◌*◌, ◌/◌, ◌<◌, ◌≤◌, Bool, true, false, not, ◌&&◌, cond, List, [], ◌∷◌, ◌++◌, length, get_or, take, refl, sym, ◌∙◌, ap, subst, arith}
 use Rattle.std.specs.Prelude.{All, nat_eq, nat_lt}
 use Rattle.std.specs.List.{filter_map}
 use Rattle.std.proofs.lemmas.Bool.{ne_eqb}
@@ -10,13 +10,14 @@ use Rattle.book_design.specs.declared.parts.Net.{Net}
 use Rattle.book_design.specs.Nets.{net_value, net_values}
 use Rattle.book_design.specs.Values.{NetValue, DesignValue}
 use Rattle.book_design.specs.WellFormed.{IsDesign, IsGoodPin, IsGoodNet}
-use Rattle.net_model.specs.declared.limits.TheConstants.{NET_WEIGHT}
+use Rattle.net_model.specs.declared.limits.TheConstants.{NET_WEIGHT, MOST_CLIQUE}
 use Rattle.net_model.specs.declared.parts.Near.{Near}
 use Rattle.net_model.specs.declared.parts.FixedPin.{FixedPin}
 use Rattle.net_model.specs.declared.point.NetPoint.{NetPoint}
 use Rattle.net_model.specs.Values.{PointValue, point_at, point_entry, point_values}
 use Rattle.net_model.specs.Clique.{first_pins, degree, share, has_node}
-use Rattle.net_model.specs.Network.{node_of, pins_in}
+use Rattle.net_model.specs.Network.{pins_in}
+use Rattle.net_model.specs.Numbered.{node_of}
 use Rattle.net_model.specs.Forms.Steps.{IsUnmarked, nears_in, nears_by, pins_by, AreJoined}
 use Rattle.net_model.specs.Forms.Joining.{is_at, AreDistinct, paired_near, paired_pin, paired_point, ArePaired}
 use Rattle.net_model.proofs.CliqueNodes.{distinct_first, joined_first, All_first}
@@ -134,8 +135,9 @@ distinct_members net members e =
     let P : List Pin → Type 0 = AreDistinct in
     subst P (sym e) (distinct_first net.pins)
 
-pub share_is : (net : NetValue) (k weight : ℕ) → k ≡ degree net → weight ≡ cond (nat_lt 1 k) (NET_WEIGHT * net.weight / (k - 1)) 0 → weight ≡ share net
-share_is net k weight e is = is ∙ ap (λ d. cond (nat_lt 1 d) (NET_WEIGHT * net.weight / (d - 1)) 0) e
+pub share_is : (net : NetValue) (k weight : ℕ) → k ≡ degree net → weight ≡ cond (nat_lt 1 k && not (nat_lt MOST_CLIQUE k)) (NET_WEIGHT * net.weight / (k - 1)) 0
+    → weight ≡ share net
+share_is net k weight e is = is ∙ ap (λ d. cond (nat_lt 1 d && not (nat_lt MOST_CLIQUE d)) (NET_WEIGHT * net.weight / (d - 1)) 0) e
 
 pub unmarked_by : (nodes count : ℕ) (seen : List Bool) → count ≡ length seen → IsUnmarked nodes seen → IsUnmarked count seen
 unmarked_by nodes count seen e h = let P : ℕ → Type 0 = λ n. IsUnmarked n seen in subst P (sym (e ∙ h.all)) h

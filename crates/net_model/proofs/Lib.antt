@@ -7,6 +7,7 @@ mod MakingNets
 mod MakingNetwork
 mod MakingOrder
 mod MakingPoints
+mod MakingStars
 mod MakingWell
 mod MergingRuns
 mod MergingSums
@@ -14,6 +15,12 @@ mod Movable
 mod NetPairs
 mod OneNetwork
 mod PairCounts
+mod Ranges
+mod StarNets
+mod StarWeights
+mod StarringNets
+mod StarringPoints
+mod Unanchored
 pub mod CliqueMarks
 pub mod CliqueNodes
 pub mod CountingTerms

@@ -14,7 +14,8 @@ use Rattle.net_model.specs.declared.limits.TheConstants.{NET_WEIGHT}
 use Rattle.net_model.specs.declared.parts.Near.{Near}
 use Rattle.net_model.specs.declared.parts.FixedPin.{FixedPin}
 use Rattle.net_model.specs.Clique.{first_pins, has_node, share}
-use Rattle.net_model.specs.Network.{node_at, node_of, point_nodes, pair_weight, as_near, near_of, pins_in}
+use Rattle.net_model.specs.Network.{point_count, pair_weight, weight_of, as_near, near_of, pins_in}
+use Rattle.net_model.specs.Numbered.{node_at, node_of, point_nodes}
 use Rattle.net_model.specs.Forms.Joining.{paired_near}
 use Rattle.net_model.specs.Forms.Steps.{nears_in, nears_by, pins_by, weight_at, as_sum, IsEntry}
 use Rattle.net_model.proofs.Movable.{stands_at_point}
@@ -36,7 +37,7 @@ nears_own design (net ∷ nets) i p h =
     omega (arith, weight_at-append (nears_in design i net) (nears_by design nets i) p, net_own_weight design net i p h, nears_own design nets i p h)
 
 -- the weight of another point is that of the pair of nodes, and a point's own is 0
-point_weight : (design : DesignValue) (p q : ℕ) → p < length (point_nodes design) → q < length (point_nodes design) → (b : Bool) → eqb q p ≡ b
+pub point_weight : (design : DesignValue) (p q : ℕ) → p < length (point_nodes design) → q < length (point_nodes design) → (b : Bool) → eqb q p ≡ b
     → weight_at (nears_by design design.nets (node_of design p)) q ≡ cond b 0 (pair_weight design (node_of design p) (node_of design q))
 point_weight design p q hp hq true e =
     ap (weight_at (nears_by design design.nets (node_of design p))) (eqb-true q p e) ∙ nears_own design design.nets (node_of design p) p (node_of_point design p hp)
@@ -58,10 +59,11 @@ filter_map_same f g a zero same = refl
 filter_map_same f g a (suc n) same =
     ap (λ o. cons_option o (filter_map f (range_with_len (a + 1) n))) (same a (omega arith)) ∙ ap (cons_option (g a)) (filter_map_same f g (a + 1) n (λ k h. same k (omega arith)))
 
-pub sums_are_near : (design : DesignValue) (p : ℕ) → p < length (point_nodes design) → filter_map (as_sum (nears_by design design.nets (node_of design p))) (range_with_len 0 (length (point_nodes design))) ≡ near_of design p
-sums_are_near design p hp =
-    filter_map_same (as_sum (nears_by design design.nets (node_of design p))) (as_near design p) 0 (length (point_nodes design))
-    (λ q h. sum_is_near q (pair_weight design (node_of design p) (node_of design q)) (weight_at (nears_by design design.nets (node_of design p)) q) (eqb q p) (point_weight design p q hp (omega arith) (eqb q p) refl))
+-- entries that give each other point its weight, and the point itself nothing, have the point's neighbours as their sums
+pub sums_are_near : (design : DesignValue) (p : ℕ) (near : List Near) → ((q : ℕ) → q < point_count design → weight_at near q ≡ cond (eqb q p) 0 (weight_of design p q))
+    → filter_map (as_sum near) (range_with_len 0 (point_count design)) ≡ near_of design p
+sums_are_near design p near weights =
+    filter_map_same (as_sum near) (as_near design p) 0 (point_count design) (λ q h. sum_is_near q (weight_of design p q) (weight_at near q) (eqb q p) (weights q (omega arith)))
 
 -- an entry is one of a point, and weighs something
 entries_by_tests : (design : DesignValue) (s i : ℕ) (pin : Pin) (rest : List Near) → 1 ≤ s → (b c : Bool) → is_movable (node_at design pin.node) ≡ c → All (IsEntry (length (point_nodes design))) rest
@@ -72,7 +74,7 @@ entries_by_tests design s i pin rest positive false true e all =
     All-cons (IsEntry (length (point_nodes design))) (record { point = movable_before design.nodes pin.node; weight = s }) rest (record { there = stands.inside; positive = positive }) all
 entries_by_tests design s i pin rest positive false false e all = all
 
-pins_entries : (design : DesignValue) (s i : ℕ) (pins : List Pin) → 1 ≤ s → All (IsEntry (length (point_nodes design))) (filter_map (paired_near design s i) pins)
+pub pins_entries : (design : DesignValue) (s i : ℕ) (pins : List Pin) → 1 ≤ s → All (IsEntry (length (point_nodes design))) (filter_map (paired_near design s i) pins)
 pins_entries design s i [] positive = All-nil (IsEntry (length (point_nodes design)))
 pins_entries design s i (pin ∷ pins) positive =
     entries_by_tests design s i pin (filter_map (paired_near design s i) pins) positive (eqb pin.node i) (is_movable (node_at design pin.node)) refl (pins_entries design s i pins positive)

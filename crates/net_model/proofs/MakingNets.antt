@@ -1,5 +1,5 @@
 -- What one net gives a node: its share for each other node, once, and in all no more than `NET_WEIGHT` times its weight.
-use Rattle.std.proofs.Common.{◌≡◌, ◌≢◌, ◌⊎◌, ℕ, zero, suc, ◌+◌, ◌-◌, ◌*◌, ◌/◌, ◌<◌, ◌≤◌, Bool, true, false, not, ◌&&◌, ◌||◌, cond, eqb, ltb, List, [], ◌∷◌, length, refl, sym, ◌∙◌, ap, inl, inr, arith}
+use Rattle.std.proofs.Common.{◌≡◌, ◌≢◌, ◌⊎◌, ℕ, zero, suc, ◌+◌, ◌-◌, ◌*◌, ◌/◌, ◌<◌, ◌≤◌, Bool, true, false, not, ◌&&◌, ◌||◌, cond, eqb, List, [], ◌∷◌, length, refl, sym, ◌∙◌, ap, inl, inr, arith}
 use Rattle.std.specs.Prelude.{None, Some, if◌then◌else◌, ◌+ℤ◌, sum_by}
 use Rattle.std.specs.List.{filter_map, cons_option}
 use Rattle.std.proofs.Math.Nat.{suc-mul, mul-div-le}
@@ -12,8 +12,9 @@ use Rattle.book_design.specs.Points.{is_movable, node_value_at, movable_before, 
 use Rattle.net_model.specs.declared.limits.TheConstants.{NET_WEIGHT}
 use Rattle.net_model.specs.declared.parts.Near.{Near}
 use Rattle.net_model.specs.declared.parts.FixedPin.{FixedPin}
-use Rattle.net_model.specs.Clique.{first_pins, has_node, share, centre_x, centre_y}
-use Rattle.net_model.specs.Network.{node_at, node_of, point_nodes, pins_in}
+use Rattle.net_model.specs.Clique.{first_pins, degree, is_clique, has_node, share, centre_x, centre_y}
+use Rattle.net_model.specs.Network.{pins_in}
+use Rattle.net_model.specs.Numbered.{node_at, node_of, point_nodes}
 use Rattle.net_model.specs.Forms.Joining.{is_at, AreDistinct, paired_near, paired_pin}
 use Rattle.net_model.specs.Forms.Steps.{nears_in, weight_at}
 use Rattle.net_model.proofs.Movable.{no_node, each_movable, one_number}
@@ -58,7 +59,7 @@ pin_weight design s i q j pin rest h = by_tests (eqb pin.node i) (is_movable (no
   by_tests false true e = weight_at-cons near rest q ∙ ap (λ b. cond b s 0 + weight_at rest q) (same_number design.nodes q j pin.node h e)
   by_tests false false e = let none : cond (eqb pin.node j) s 0 ≡ 0 = ap (λ b. cond b s 0) (fixed_apart design.nodes q j pin.node h e) in omega (arith, none)
 
-zero_either : (n : ℕ) (b : Bool) → n ≡ 0 → cond b 0 n ≡ 0
+pub zero_either : (n : ℕ) (b : Bool) → n ≡ 0 → cond b 0 n ≡ 0
 zero_either n true none = refl
 zero_either n false none = none
 
@@ -145,11 +146,9 @@ pins_bound design s i (pin ∷ pins) movable =
     omega (arith, step, suc-mul (length pins) s)
 
 -- the shares of all but one of so many nodes
-share_bound : (d w : ℕ) → (d - 1) * (if ltb 1 d then NET_WEIGHT * w / (d - 1) else 0) ≤ NET_WEIGHT * w
-share_bound d w = by_test (ltb 1 d) where
-  by_test : (b : Bool) → (d - 1) * (if b then NET_WEIGHT * w / (d - 1) else 0) ≤ NET_WEIGHT * w
-  by_test true = mul-div-le (NET_WEIGHT * w) (d - 1)
-  by_test false = omega arith
+share_bound : (b : Bool) (d w : ℕ) → (d - 1) * (if b then NET_WEIGHT * w / (d - 1) else 0) ≤ NET_WEIGHT * w
+share_bound true d w = mul-div-le (NET_WEIGHT * w) (d - 1)
+share_bound false d w = omega arith
 
 all_but_one : (d s all : ℕ) → all + s ≤ d * s → all ≤ (d - 1) * s
 all_but_one zero s all h = omega arith
@@ -169,4 +168,4 @@ bound_by_tests design net i s movable false false e = omega arith
 -- what a net gives a point, as neighbours and as fixed pins
 pub net_bound : (design : DesignValue) (net : NetValue) (i : ℕ) → is_movable (node_at design i) ≡ true → weight_sum (nears_in design i net) + pin_sum (pins_in design i net) ≤ NET_WEIGHT * net.weight
 net_bound design net i movable =
-    omega (arith, bound_by_tests design net i (share net) movable (eqb (share net) 0) (has_node net i) refl, share_bound (length (first_pins net.pins)) net.weight)
+    omega (arith, bound_by_tests design net i (share net) movable (eqb (share net) 0) (has_node net i) refl, share_bound (is_clique net) (degree net) net.weight)

@@ -5,7 +5,7 @@ use Rattle.std.specs.List.{filter_map, range_with_len, cons_option}
 use Rattle.std.specs.List.Sorted.{IsStrictlyIncreasing}
 use Rattle.book_design.specs.Values.{DesignValue}
 use Rattle.net_model.specs.declared.parts.Near.{Near}
-use Rattle.net_model.specs.Network.{node_of, point_nodes, pair_weight, as_near, near_of}
+use Rattle.net_model.specs.Network.{point_count, weight_of, as_near, near_of}
 
 abbrev numbers : List Near → List ℕ
 numbers near = map (λ entry. entry.point) near
@@ -40,8 +40,8 @@ by_test a weight rest h false = with_first a (numbers rest) h
 rising_from : (design : DesignValue) (p a n : ℕ) → IsRisingFrom a (numbers (filter_map (as_near design p) (range_with_len a n)))
 rising_from design p a zero = record { low = λ k inside. absurd (omega arith); rising = λ k inside. absurd (omega arith) }
 rising_from design p a (suc n) =
-    let pair = pair_weight design (node_of design p) (node_of design a) in
+    let pair = weight_of design p a in
     by_test a pair (filter_map (as_near design p) (range_with_len (a + 1) n)) (rising_from design p (a + 1) n) (eqb a p || eqb pair 0)
 
 pub near_ascending : (design : DesignValue) (p : ℕ) → IsStrictlyIncreasing (numbers (near_of design p))
-near_ascending design p = (rising_from design p 0 (length (point_nodes design))).rising
+near_ascending design p = (rising_from design p 0 (point_count design)).rising

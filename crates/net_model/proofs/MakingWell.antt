@@ -1,15 +1,13 @@
 -- The network of a design is well formed.
-use Rattle.std.proofs.Common.{◌≡◌, ◌⊎◌, ℕ, zero, suc, ◌+◌, ◌*◌, ◌/◌, ◌^◌, ◌<◌, ◌≤◌, Bool, true, false, ◌||◌, eqb, List, [], ◌∷◌, length, refl, sym, subst, arith, inl, inr, take, length-take}
-use Rattle.std.specs.Prelude.{None, Some, if◌then◌else◌, nat_abs, pos, neg_ℤ, ◌≤ℤ◌, ◌+ℤ◌, ℤ, All}
+use Rattle.std.proofs.Common.{◌≡◌, ◌⊎◌, ℕ, zero, suc, ◌+◌, ◌-◌, ◌*◌, not, ap, ◌/◌, ◌^◌, ◌<◌, ◌≤◌, Bool, true, false, ◌||◌, eqb, List, [], ◌∷◌, length, refl, sym, subst, arith, inl, inr}
+use Rattle.std.specs.Prelude.{None, Some, slice_index, if◌then◌else◌, nat_abs, pos, neg_ℤ, ◌≤ℤ◌, ◌+ℤ◌, ℤ, All}
 use Rattle.std.specs.Int.{div_ceil}
 use Rattle.std.specs.List.{filter_map, range_with_len, cons_option, AllByRecursion}
 use Rattle.std.proofs.Math.Nat.{mul-le-mul_right}
-use Rattle.std.proofs.lemmas.Bool.{eqb-false, cases_lt}
+use Rattle.std.proofs.lemmas.Bool.{eqb-false, cases_lt, both_ways, lt-ltb, le-ltb}
 use Rattle.std.proofs.lemmas.Int.{ints}
 use Rattle.std.proofs.lemmas.List.Elements.{All-get_or, All-from_recursion, recursion_from_All, All-append, All-nil}
 use Rattle.std.proofs.lemmas.List.FromFn.{length-map-range_with_len, get_or-map-range_with_len}
-use Rattle.std.proofs.lemmas.List.Sums.{count_by-le-length}
-use Rattle.book_design.specs.declared.rules.TheConstants.{MOST_NODES}
 use Rattle.book_design.specs.declared.parts.Pin.{Pin}
 use Rattle.book_design.specs.Values.{NetValue, DesignValue}
 use Rattle.book_design.specs.Points.{is_movable, site_count}
@@ -18,16 +16,22 @@ use Rattle.net_model.specs.declared.limits.TheConstants.{MOST_WEIGHT}
 use Rattle.net_model.specs.declared.parts.Near.{Near}
 use Rattle.net_model.specs.declared.parts.FixedPin.{FixedPin}
 use Rattle.net_model.specs.Clique.{first_pins, has_node, share, centre_x, centre_y}
-use Rattle.net_model.specs.Network.{node_at, node_of, point_nodes, pair_weight, as_near, pins_in, pins_of, point_value, network_of, total_weight, IsHeavy}
+use Rattle.net_model.specs.Network.{point_count, is_star, net_of_star, weight_of, as_near, fixed_in, pins_in, point_value, network_of, total_weight, IsHeavy}
+use Rattle.net_model.specs.Numbered.{node_at, node_of, point_nodes}
+use Rattle.net_model.specs.Star.{spoke, star_net, star_nets}
 use Rattle.net_model.specs.Forms.Joining.{paired_pin}
 use Rattle.net_model.specs.Forms.Steps.{pins_by}
 use Rattle.net_model.specs.Values.{PointValue, point_at}
 use Rattle.net_model.specs.WellFormed.{IsGoodNear, IsGoodPin, IsGoodPoint, IsNet}
-use Rattle.net_model.proofs.Movable.{no_node, count_movable}
+use Rattle.net_model.proofs.Movable.{no_node}
 use Rattle.net_model.proofs.CliqueNodes.{All_first}
 use Rattle.net_model.proofs.MakingNets.{node_of_point}
 use Rattle.net_model.proofs.MakingPoints.{no_point}
 use Rattle.net_model.proofs.MakingOrder.{near_ascending}
+use Rattle.net_model.proofs.CountingTerms.{no_net}
+use Rattle.net_model.proofs.StarringNets.{few_points}
+use Rattle.net_model.proofs.StarWeights.{good_star}
+use Rattle.net_model.proofs.StarNets.{star_net_wide}
 
 -- ---- the neighbours
 
@@ -40,7 +44,7 @@ near_by_test points p q pair rest h false false e f all = let some = eqb-false p
 near_good : (design : DesignValue) (points p a n : ℕ) → a + n ≤ points → AllByRecursion (IsGoodNear points p) (filter_map (as_near design p) (range_with_len a n))
 near_good design points p a zero h = tt
 near_good design points p a (suc n) h =
-    let pair = pair_weight design (node_of design p) (node_of design a) in
+    let pair = weight_of design p a in
     near_by_test points p a pair (filter_map (as_near design p) (range_with_len (a + 1) n)) (omega arith) (eqb a p) (eqb pair 0) refl refl (near_good design points p (a + 1) n (omega arith))
 
 -- ---- the fixed pins
@@ -89,9 +93,23 @@ nets_good design (net ∷ nets) i h good =
 
 -- ---- the points
 
-pub few_points : (design : DesignValue) → IsDesign design → length (point_nodes design) ≤ MOST_NODES
-few_points design h =
-    omega (arith, count_movable design.nodes (length design.nodes) (omega arith), count_by-le-length is_movable (take (length design.nodes) design.nodes), length-take (length design.nodes) design.nodes, h.few_nodes)
+-- a star point stands behind the points that are nodes
+pub star_behind : (design : DesignValue) (p : ℕ) → is_star design p ≡ true → length (point_nodes design) ≤ p
+star_behind design p e = by_place (cases_lt p (length (point_nodes design))) where
+  by_place : (p < length (point_nodes design)) ⊎ (length (point_nodes design) ≤ p) → length (point_nodes design) ≤ p
+  by_place (inl less) = absurd (both_ways (is_star design p) (ap not (lt-ltb p (length (point_nodes design)) less)) e)
+  by_place (inr more) = more
+
+pub node_before : (design : DesignValue) (p : ℕ) → is_star design p ≡ false → p < length (point_nodes design)
+node_before design p e = by_place (cases_lt p (length (point_nodes design))) where
+  by_place : (p < length (point_nodes design)) ⊎ (length (point_nodes design) ≤ p) → p < length (point_nodes design)
+  by_place (inl less) = less
+  by_place (inr more) = absurd (both_ways (is_star design p) e (ap not (le-ltb p (length (point_nodes design)) more)))
+
+pub star_net_good : (design : DesignValue) (s : ℕ) → IsDesign design → s < length (star_nets design) → IsGoodNet (length design.nodes) (star_net design s)
+star_net_good design s h there =
+    All-get_or (IsGoodNet (length design.nodes)) design.nets (slice_index (star_nets design) s) no_net (star_net_wide design s there).0
+    (All-from_recursion (IsGoodNet (length design.nodes)) design.nets h.nets)
 
 ceil_bound : (x y : ℕ) → 1 ≤ y → div_ceil x y ≤ x
 ceil_bound x y h = omega (arith, mul-le-mul_right (x / y) h)
@@ -103,32 +121,51 @@ sites_bound width pitch low high some =
     omega (arith, ceil_bound (nat_abs width) (nat_abs pitch) apart)
 
 -- the point of the network at a place
-pub network_point : (design : DesignValue) (p : ℕ) → p < length (point_nodes design) → point_at (network_of design).points p ≡ point_value design p
-network_point design p h = get_or-map-range_with_len (point_value design) 0 (length (point_nodes design)) p p no_point h (omega arith)
+pub network_point : (design : DesignValue) (p : ℕ) → p < point_count design → point_at (network_of design).points p ≡ point_value design p
+network_point design p h = get_or-map-range_with_len (point_value design) 0 (point_count design) p p no_point h (omega arith)
 
-pub network_points : (design : DesignValue) → length (network_of design).points ≡ length (point_nodes design)
-network_points design = length-map-range_with_len (point_value design) 0 (length (point_nodes design))
+pub network_points : (design : DesignValue) → length (network_of design).points ≡ point_count design
+network_points design = length-map-range_with_len (point_value design) 0 (point_count design)
 
-point_good : (design : DesignValue) (p : ℕ) → IsDesign design → total_weight (point_value design p) ≤ MOST_WEIGHT → p < length (point_nodes design) → IsGoodPoint (length (point_nodes design)) p (point_value design p)
-point_good design p h light inside =
-    let own = node_of_point design p inside in
+-- the pins of a point, by whether it is a star point
+pins_by_kind : (design : DesignValue) (p : ℕ) (b : Bool) → IsDesign design → p < point_count design → is_star design p ≡ b
+    → AllByRecursion IsGoodPin (if b then fixed_in design (spoke (net_of_star design p)) (net_of_star design p) else pins_by design design.nets (node_of design p))
+pins_by_kind design p true h inside e =
+    let s = p - length (point_nodes design) in
+    let there : s < length (star_nets design) = omega (arith, star_behind design p e) in
+    let net = star_net design s in
+    pins_good design (spoke net) (first_pins net.pins) h (good_star design s h there).positive
+    (first_good (length design.nodes) net.pins (star_net_good design s h there).pins)
+pins_by_kind design p false h inside e =
+    recursion_from_All IsGoodPin (pins_by design design.nets (node_of design p)) (nets_good design design.nets (node_of design p) h h.nets)
+
+-- and its area
+area_by_kind : (design : DesignValue) (p : ℕ) (b : Bool) → IsDesign design → is_star design p ≡ b
+    → (if b then 0 else site_count (node_at design (node_of design p)).width design.pitch) ≤ 10 ^ 12
+area_by_kind design p true h e = omega arith
+area_by_kind design p false h e =
+    let own = node_of_point design p (node_before design p e) in
     let node = good_node design (node_of design p) h own.there in
-    record {
-      near = near_good design (length (point_nodes design)) p 0 (length (point_nodes design)) (omega arith);
-      ascending = near_ascending design p;
-      pins = recursion_from_All IsGoodPin (pins_of design p) (nets_good design design.nets (node_of design p) h h.nets);
-      light = light;
-      area = sites_bound (node_at design (node_of design p)).width design.pitch node.width_sign node.width.high h.pitch_sign;
-    }
+    sites_bound (node_at design (node_of design p)).width design.pitch node.width_sign node.width.high h.pitch_sign
+
+point_good : (design : DesignValue) (p : ℕ) → IsDesign design → total_weight (point_value design p) ≤ MOST_WEIGHT → p < point_count design → IsGoodPoint (point_count design) p (point_value design p)
+point_good design p h light inside = record {
+  near = near_good design (point_count design) p 0 (point_count design) (omega arith);
+  ascending = near_ascending design p;
+  pins = pins_by_kind design p (is_star design p) h inside refl;
+  light = light;
+  area = area_by_kind design p (is_star design p) h refl;
+}
 
 -- a network without a heavy point
 pub net_without_heavy : (design : DesignValue) → IsDesign design → ((p : ℕ) → IsHeavy design p → ⊥) → IsNet (network_of design)
 net_without_heavy design h light = record {
   few = omega (arith, network_points design, few_points design h);
+  stars = omega (arith, network_points design);
   each = λ p inside.
-      let there : p < length (point_nodes design) = omega (arith, network_points design) in
+      let there : p < point_count design = omega (arith, network_points design) in
       let P : ℕ → Type 0 = λ n. IsGoodPoint n p (point_at (network_of design).points p) in
-      let Q : PointValue → Type 0 = IsGoodPoint (length (point_nodes design)) p in
+      let Q : PointValue → Type 0 = IsGoodPoint (point_count design) p in
       subst P (sym (network_points design)) (subst Q (sym (network_point design p there)) (point_good design p h (not_above (total_weight (point_value design p)) (λ more. light p (there, more))) there));
   core = h.core;
 } where

@@ -1,14 +1,14 @@
 -- The movable nodes as points: each one's number is the count of movable nodes before it.
-use Rattle.std.proofs.Common.{◌≡◌, ◌⊎◌, ℕ, zero, suc, ◌+◌, ◌<◌, ◌≤◌, Bool, true, false, cond, List, [], ◌∷◌, ◌++◌, length, get_or, map, refl, sym, ◌∙◌, ap, subst, inl, inr, arith, length-append, zero-add, add-one}
+use Rattle.std.proofs.Common.{◌≡◌, ◌⊎◌, ℕ, zero, suc, ◌+◌, ◌<◌, ◌≤◌, Bool, true, false, cond, List, [], ◌∷◌, ◌++◌, length, get_or, refl, sym, ◌∙◌, ap, subst, inl, inr, arith, length-append, add-one}
 use Rattle.std.specs.Prelude.{filter, pos}
 use Rattle.std.specs.List.{range_with_len}
-use Rattle.std.proofs.lemmas.List.FromFn.{filter_of_map_range_with_len_more}
 use Rattle.std.proofs.lemmas.List.Sums.{count_by_more_yes, count_by_more_no}
 use Rattle.std.proofs.lemmas.List.{get_or_append_left}
 use Rattle.std.proofs.Math.Seq.{get_or-append_seam}
 use Rattle.book_files.specs.declared.orient.Orient.TheVariants.{N}
 use Rattle.book_design.specs.Values.{NodeValue}
 use Rattle.book_design.specs.Points.{is_movable, node_value_at, movable_before}
+use Rattle.net_model.proofs.Ranges.{kept_more}
 
 -- what stands past the end
 abbrev pub no_node : NodeValue
@@ -18,15 +18,8 @@ no_node = record { name = []; width = pos 0; height = pos 0; x = pos 0; y = pos 
 abbrev pub movable_up_to : List NodeValue → ℕ → List ℕ
 movable_up_to nodes n = filter (λ i. is_movable (node_value_at nodes i)) (range_with_len 0 n)
 
-map_same : (xs : List ℕ) → map (λ x. x) xs ≡ xs
-map_same [] = refl
-map_same (x ∷ xs) = ap (λ ys. x ∷ ys) (map_same xs)
-
 pub movable_more : (nodes : List NodeValue) (n : ℕ) → movable_up_to nodes (n + 1) ≡ movable_up_to nodes n ++ cond (is_movable (node_value_at nodes n)) (n ∷ []) []
-movable_more nodes n =
-    let p : ℕ → Bool = λ i. is_movable (node_value_at nodes i) in
-    let e = filter_of_map_range_with_len_more p (λ i. i) 0 n n (zero-add n) in
-    sym (ap (filter p) (map_same (range_with_len 0 (n + 1)))) ∙ e ∙ ap (λ xs. filter p xs ++ cond (p n) (n ∷ []) []) (map_same (range_with_len 0 n))
+movable_more nodes n = kept_more (λ i. is_movable (node_value_at nodes i)) n
 
 append_none : (xs : List ℕ) → xs ++ [] ≡ xs
 append_none [] = refl

@@ -1,6 +1,7 @@
--- The pair terms of a net are its pairs without those of two fixed nodes: each of its nodes is the node of one first pin.
+-- The pair terms of a net are its pairs without those of two fixed nodes, and its spokes: each of its nodes is the node of one first
+-- pin.
 use Rattle.std.proofs.Common.{◌≡◌, ℕ, ◌+◌, ◌-◌, ◌<◌, Bool, true, false, not, ◌||◌, cond, eqb, ltb, List, [], ◌∷◌, length, refl, sym, ◌∙◌, ap, arith}
-use Rattle.std.specs.Prelude.{◌&&◌, count_by, filter, All}
+use Rattle.std.specs.Prelude.{◌&&◌, count_by, All}
 use Rattle.std.specs.List.{range_with_len}
 use Rattle.std.proofs.lemmas.Bool.{eqb-true}
 use Rattle.std.proofs.lemmas.Bool.Decides.{nat_tests}
@@ -13,7 +14,8 @@ use Rattle.book_design.specs.Values.{NetValue, DesignValue}
 use Rattle.book_design.specs.WellFormed.{IsGoodNet}
 use Rattle.net_model.specs.Clique.{first_pins, degree, share, has_node}
 use Rattle.net_model.specs.Forms.Joining.{is_at, AreDistinct}
-use Rattle.net_model.specs.Network.{node_at, pairs, fixed_pins, terms_of, terms_in_pairs}
+use Rattle.net_model.specs.Network.{pairs, fixed_pins, spokes_of, terms_of, terms_in_pairs}
+use Rattle.net_model.specs.Numbered.{node_at}
 use Rattle.net_model.proofs.CliqueNodes.{distinct_first, joined_first, first_there}
 use Rattle.net_model.proofs.CountingTerms.{net_there}
 use Rattle.net_model.proofs.PairCounts.{count_split, count_none, count_same, count_one, all_pairs, pairs_left, no_pairs}
@@ -91,4 +93,4 @@ module _ (design : DesignValue) (net : NetValue) (good : IsGoodNet (length desig
 
   pub net_in_pairs : terms_of design net ≡ terms_in_pairs design net
   unfolding terms_of
-  net_in_pairs = by_share (eqb (share net) 0)
+  net_in_pairs = ap (λ n. n + spokes_of design net) (by_share (eqb (share net) 0))

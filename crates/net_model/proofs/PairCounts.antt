@@ -1,5 +1,5 @@
 -- How many pairs of numbers there are below a number, where the two of a pair have a property and not both of them another one.
-use Rattle.std.proofs.Common.{◌≡◌, ℕ, zero, suc, ◌+◌, ◌-◌, ◌*◌, Bool, true, false, not, ◌||◌, cond, eqb, ltb, List, [], ◌∷◌, map, refl, sym, ◌∙◌, ap, subst, arith, add-one, zero-add}
+use Rattle.std.proofs.Common.{◌≡◌, ℕ, zero, suc, ◌+◌, ◌-◌, ◌*◌, Bool, true, false, not, ◌||◌, cond, eqb, ltb, List, [], ◌∷◌, refl, sym, ◌∙◌, ap, subst, arith, add-one, zero-add}
 use Rattle.std.specs.Prelude.{◌&&◌, sum_by, count_by}
 use Rattle.std.specs.List.{range_with_len}
 use Rattle.std.proofs.Math.Nat.{suc-mul, mul-suc}
@@ -7,6 +7,7 @@ use Rattle.std.proofs.lemmas.Bool.Decides.{nat_tests}
 use Rattle.std.proofs.lemmas.List.FromFn.{sum_by-map-range_with_len_more}
 use Rattle.std.proofs.lemmas.List.Sums.{sum_by-cons}
 use Rattle.net_model.specs.Network.{pairs}
+use Rattle.net_model.proofs.Ranges.{map_same}
 
 -- with one number more, it makes a pair with each of the others
 product_more : (k : ℕ) → (k + 1) * (k + 1 - 1) ≡ k * (k - 1) + k * 2
@@ -23,10 +24,6 @@ pub pairs_more : (k : ℕ) → pairs (k + 1) ≡ pairs k + k
 pairs_more k = let e = product_more k in omega (arith, e)
 
 -- counts over a range that has one number more
-map_same : (xs : List ℕ) → map (λ x. x) xs ≡ xs
-map_same [] = refl
-map_same (x ∷ xs) = ap (λ ys. x ∷ ys) (map_same xs)
-
 sum_more : (g : ℕ → ℕ) (n : ℕ) → sum_by g (range_with_len 0 (n + 1)) ≡ sum_by g (range_with_len 0 n) + g n
 sum_more g n =
     sym (ap (sum_by g) (map_same (range_with_len 0 (n + 1)))) ∙ sum_by-map-range_with_len_more g (λ i. i) 0 n n (zero-add n)

@@ -1,8 +1,8 @@
 -- The clique of a net: which nodes it joins, and with what weight.
-use Rattle.std.specs.Prelude.{ℕ, ◌-◌, ◌*◌, ◌/◌, Bool, not, ◌==◌, nat_lt, List, [], ◌∷◌, length, filter, if◌then◌else◌, ℤ, pos, nat_abs, ◌+ℤ◌}
+use Rattle.std.specs.Prelude.{ℕ, ◌-◌, ◌*◌, ◌/◌, Bool, not, ◌&&◌, ◌==◌, nat_lt, List, [], ◌∷◌, length, filter, if◌then◌else◌, ℤ, pos, nat_abs, ◌+ℤ◌}
 use Rattle.std.specs.List.{list_any}
 use Rattle.book_design.specs.declared.parts.Pin.{Pin}
-use Rattle.net_model.specs.declared.limits.TheConstants.{NET_WEIGHT}
+use Rattle.net_model.specs.declared.limits.TheConstants.{NET_WEIGHT, MOST_CLIQUE}
 use Rattle.book_design.specs.Values.{NodeValue, NetValue}
 
 -- the first pin of each distinct node, in order
@@ -14,9 +14,13 @@ first_pins (pin ∷ pins) = pin ∷ filter (λ other. not (other.node == pin.nod
 abbrev pub degree : NetValue → ℕ
 degree net = length (first_pins net.pins)
 
--- The weight of each pair of a net's nodes: `NET_WEIGHT` times the net's, shared by one less than its nodes, rounded down.
+-- a net that joins its nodes in pairs: it has two of them at least, and no more than a clique may have
+abbrev pub is_clique : NetValue → Bool
+is_clique net = nat_lt 1 (degree net) && not (nat_lt MOST_CLIQUE (degree net))
+
+-- The weight of each pair of the nodes of a clique: `NET_WEIGHT` times the net's, shared by one less than its nodes, rounded down.
 abbrev pub share : NetValue → ℕ
-share net = if nat_lt 1 (degree net) then NET_WEIGHT * net.weight / (degree net - 1) else 0
+share net = if is_clique net then NET_WEIGHT * net.weight / (degree net - 1) else 0
 
 -- the net has a pin at the node
 abbrev pub has_node : NetValue → ℕ → Bool

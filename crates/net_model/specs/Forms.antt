@@ -1,2 +1,3 @@
 pub mod Joining
+pub mod Stars
 pub mod Steps

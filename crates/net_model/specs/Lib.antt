@@ -2,6 +2,8 @@ pub mod Answers
 pub mod Clique
 pub mod Forms
 pub mod Network
+pub mod Numbered
+pub mod Star
 pub mod Values
 pub mod Webs
 pub mod WellFormed

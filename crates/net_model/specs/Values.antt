@@ -1,5 +1,5 @@
 -- A network as contracts see it.
-use Rattle.std.specs.Prelude.{ℕ, List, [], map, slice_index_or}
+use Rattle.std.specs.Prelude.{ℕ, ◌-◌, List, [], length, map, slice_index_or}
 use Rattle.book_design.specs.declared.parts.Core.{Core}
 use Rattle.net_model.specs.declared.parts.Near.{Near}
 use Rattle.net_model.specs.declared.parts.FixedPin.{FixedPin}
@@ -11,9 +11,15 @@ pub record PointValue : Type 0 where
   pub pins : List FixedPin
   pub area : ℕ
 
+-- the points, with the star points behind the movable nodes, and the net of each star point
 pub record NetworkValue : Type 0 where
   pub points : List PointValue
+  pub stars : List ℕ
   pub core : Core
+
+-- how many of the points are movable nodes
+abbrev pub node_count : NetworkValue → ℕ
+node_count network = length network.points - length network.stars
 
 abbrev pub point_entry : NetPoint → PointValue
 point_entry p = record { near = p.near.items; pins = p.pins.items; area = p.area }

@@ -2,7 +2,7 @@
 use Rattle.std.specs.Prelude.{◌≢◌, ℕ, ◌*◌, ◌^◌, ◌<◌, ◌≤◌, length, map, pos, neg_ℤ, ◌≤ℤ◌}
 use Rattle.std.specs.List.{AllByRecursion}
 use Rattle.std.specs.List.Sorted.{IsStrictlyIncreasing}
-use Rattle.book_design.specs.declared.rules.TheConstants.{MOST_NODES}
+use Rattle.pad_reach.specs.declared.web.TheConstants.{MOST_POINTS}
 use Rattle.book_design.specs.WellFormed.{IsGoodCore}
 use Rattle.net_model.specs.declared.limits.TheConstants.{MOST_WEIGHT}
 use Rattle.net_model.specs.declared.parts.Near.{Near}
@@ -33,6 +33,7 @@ pub record IsGoodPoint (points p : ℕ) (point : PointValue) : Type 0 where
   pub area : point.area ≤ 10 ^ 12
 
 pub record IsNet (network : NetworkValue) : Type 0 where
-  pub few : length network.points ≤ MOST_NODES
+  pub few : length network.points ≤ MOST_POINTS
+  pub stars : length network.stars ≤ length network.points
   pub each : (p : ℕ) → p < length network.points → IsGoodPoint (length network.points) p (point_at network.points p)
   pub core : IsGoodCore network.core

@@ -1,12 +1,12 @@
-//! The clique of a net: its distinct nodes, and the weight of each pair of them.
+//! The distinct nodes of a net, and the weights of their pairs and of their spokes.
 
-ghost use Rattle.std.specs.Prelude.{◌≡◌, ◌-◌, ◌*◌, ◌/◌, ◌≤◌, nat_lt, [], length, vec_len};
+ghost use Rattle.std.specs.Prelude.{◌≡◌, ◌-◌, ◌*◌, ◌/◌, ◌^◌, ◌<◌, ◌≤◌, not, ◌&&◌, nat_lt, [], length, vec_len};
 ghost use Rattle.std.specs.Prelude.{if◌then◌else◌, IfOk, OnOk};
 ghost use Rattle.book_design.specs.declared.rules.TheConstants.{MOST_NET_WEIGHT};
 ghost use Rattle.net_model.specs.Clique.{first_pins};
 ghost use Rattle.net_model.specs.Forms.Steps.{IsUnmarked, AreMarked, AreAtNodes};
 
-use crate::limits::NET_WEIGHT;
+use crate::limits::{MOST_CLIQUE, NET_WEIGHT};
 use book_design::Pin;
 use std::alloc::{AllocError, Global};
 
@@ -76,14 +76,26 @@ fn unmark(seen: &mut [bool], pins: &[Pin])
 }
 
 /// The weight of each pair of a net's nodes, by the net's weight and the number of its distinct
-/// nodes.
+/// nodes: 0 where they are no clique.
 pub(crate) fn share(weight: u32, degree: usize) -> u64
     requires { weight ≤ MOST_NET_WEIGHT }
-    ensures { result ≡ (if nat_lt 1 degree then NET_WEIGHT * weight / (degree - 1) else 0) }
+    ensures { result ≡ (if nat_lt 1 degree && not (nat_lt MOST_CLIQUE degree)
+        then NET_WEIGHT * weight / (degree - 1) else 0) }
 {
-    if degree > 1 {
+    if degree > 1 && degree <= MOST_CLIQUE {
         NET_WEIGHT * u64::from(weight) / (degree as u64 - 1)
     } else {
         0
     }
+}
+
+/// The weight of each spoke of a wide net, by the net's weight and the number of its distinct nodes.
+pub(crate) fn spoke(weight: u32, degree: usize) -> u64
+    requires weight { weight ≤ MOST_NET_WEIGHT }
+    requires wide { MOST_CLIQUE < degree }
+    requires few { degree < 2 ^ 32 }
+    ensures { result ≡ NET_WEIGHT * weight * degree / (degree - 1) }
+{
+    let degree = degree as u64;
+    NET_WEIGHT * u64::from(weight) * degree / (degree - 1)
 }

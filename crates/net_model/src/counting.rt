@@ -1,42 +1,87 @@
-//! How many pair terms the nets of a design have.
+//! How many pair terms the nets of a design have, and which nets have a star point.
 
-ghost use Rattle.std.specs.Prelude.{◌≡◌, ◌≤◌, not, length, filter, OnOk};
+ghost use Rattle.std.specs.Prelude.{◌≡◌, ◌≤◌, false, not, length, filter, IfOk, OnOk};
+ghost use Rattle.std.specs.List.{list_any};
 ghost use Rattle.book_design.specs.Nets.{net_value};
 ghost use Rattle.book_design.specs.Points.{is_movable};
 ghost use Rattle.book_design.specs.WellFormed.{IsGoodNet};
 ghost use Rattle.net_model.specs.Clique.{first_pins};
-ghost use Rattle.net_model.specs.Network.{node_at, pairs, terms_in_pairs};
+ghost use Rattle.net_model.specs.Network.{pairs, terms_in_pairs};
+ghost use Rattle.net_model.specs.Numbered.{node_at};
+ghost use Rattle.net_model.specs.Star.{is_wide};
 ghost use Rattle.net_model.specs.Forms.Steps.{AreAtNodes, IsUnmarked, Counts};
 
 use crate::clique::{Clique, share};
-use crate::fault::{NetError, NetFault};
-use crate::limits::MOST_NET_NODES;
+use crate::limits::MOST_CLIQUE;
 use book_design::{Design, Net, Pin};
+use std::alloc::{AllocError, Global};
 
-/// The number of pair terms, or the first net that is too wide.
-pub(crate) fn count_terms(design: &Design<'_>, clique: &mut Clique) -> Result<u64, NetError>
-    requires unmarked { IsUnmarked (length design.now.nodes) clique.old.seen.items }
-    ensures counted { Counts design.now result }
-    ensures unmarked { OnOk result (IsUnmarked (length design.now.nodes) clique.new.seen.items) }
-{
-    let mut total = 0;
-    for (n, net) in design.nets().iter().enumerate() {
-        clique.gather(net.pins.as_slice())?;
-        if clique.pins.len() > MOST_NET_NODES {
-            return Err(NetError::Fault(NetFault::NetTooWide(n as u32)));
-        }
-        total += net_terms(design, net, &clique.pins);
-    }
-    Ok(total)
+/// What the nets of a design come to.
+#[derive(Drop)]
+pub(crate) struct NetCount {
+    /// How many pair terms they have.
+    pub(crate) terms: u64,
+    /// The wide nets, in order.
+    pub(crate) stars: Vec<u32>,
 }
 
-/// How many pair terms a net with these first pins has: at most the pairs of the most nodes.
-fn net_terms(design: &Design<'_>, net: &Net, first: &[Pin]) -> u64
+/// The number of pair terms, and the wide nets.
+pub(crate) fn count_nets(
+    alloc: Global,
+    design: &Design<'_>,
+    clique: &mut Clique,
+) -> Result<NetCount, AllocError>
+    requires unmarked { IsUnmarked (length design.now.nodes) clique.old.seen.items }
+    ensures counted { IfOk result (Counts design.now) }
+    ensures unmarked { OnOk result (IsUnmarked (length design.now.nodes) clique.new.seen.items) }
+{
+    let mut count = NetCount {
+        terms: 0,
+        stars: Vec::new(alloc),
+    };
+    for (n, net) in design.nets().iter().enumerate() {
+        clique.gather(net.pins.as_slice())?;
+        if is_wide(design, net, &clique.pins) {
+            count.stars.push(n as u32)?;
+            count.terms += clique.pins.len() as u64;
+        } else {
+            count.terms += clique_terms(design, net, &clique.pins);
+        }
+    }
+    Ok(count)
+}
+
+/// Whether a net with these first pins has a star point.
+fn is_wide(design: &Design<'_>, net: &Net, first: &[Pin]) -> bool
     requires valid { IsGoodNet (length design.now.nodes) (net_value net.now) }
     requires first { first.now ≡ first_pins net.now.pins }
-    requires narrow { length first.now ≤ MOST_NET_NODES }
+    ensures { result ≡ is_wide design.now (net_value net.now) }
+{
+    first.len() > MOST_CLIQUE && net.weight > 0 && has_movable(design, first)
+}
+
+/// Whether one of the pins is at a movable node.
+fn has_movable(design: &Design<'_>, pins: &[Pin]) -> bool
+    requires { AreAtNodes (length design.now.nodes) pins.now }
+    ensures { result ≡ list_any (λ pin. is_movable (node_at design.now pin.node)) pins.now }
+{
+    let nodes = design.nodes();
+    for pin in pins {
+        if !nodes[pin.node as usize].fixed {
+            return true;
+        }
+    }
+    false
+}
+
+/// How many pair terms a net with these first pins has that isn't wide: at most the pairs of the
+/// largest clique.
+fn clique_terms(design: &Design<'_>, net: &Net, first: &[Pin]) -> u64
+    requires valid { IsGoodNet (length design.now.nodes) (net_value net.now) }
+    requires first { first.now ≡ first_pins net.now.pins }
+    requires narrow { is_wide design.now (net_value net.now) ≡ false }
     ensures terms { result ≡ terms_in_pairs design.now (net_value net.now) }
-    ensures few { result ≤ pairs MOST_NET_NODES }
+    ensures few { result ≤ pairs MOST_CLIQUE }
 {
     if share(net.weight, first.len()) == 0 {
         0
@@ -48,7 +93,7 @@ fn net_terms(design: &Design<'_>, net: &Net, first: &[Pin]) -> u64
 
 /// How many pairs so many nodes have.
 fn pair_count(nodes: usize) -> u64
-    requires { nodes ≤ MOST_NET_NODES }
+    requires { nodes ≤ MOST_CLIQUE }
     ensures { result ≡ pairs nodes }
 {
     let nodes = nodes as u64;

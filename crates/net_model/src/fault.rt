@@ -3,11 +3,10 @@ use std::alloc::{AllocError, AllocFailed};
 /// What is wrong with the nets of a design. The first of these that holds is named, at its first place.
 #[derive(Clone, Copy, Debug, PartialEq, Eq)]
 pub enum NetFault {
-    /// A net with more than 512 distinct nodes ([`MOST_NET_NODES`](crate::MOST_NET_NODES)), by its number.
-    NetTooWide(u32),
     /// More than 16,777,216 pair terms ([`MOST_TERMS`](crate::MOST_TERMS)): how many.
     TooManyEdges(u64),
-    /// A point whose total weight passes 2^40 ([`MOST_WEIGHT`](crate::MOST_WEIGHT)), by its number.
+    /// A point whose total weight passes 2^40 ([`MOST_WEIGHT`](crate::MOST_WEIGHT)), by its number. The net of a star point is
+    /// that of [`star_net`](crate::star_net), by the star points before it: its number less the movable nodes.
     Heavy(u32),
 }
 

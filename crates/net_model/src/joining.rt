@@ -1,4 +1,4 @@
-//! What the nets of a design give its points, one net after another.
+//! What the cliques of a design give its points, one net after another.
 
 ghost use Rattle.std.specs.Prelude.{◌≡◌, ◌≢◌, ℕ, ◌/◌, true, [], ◌∷◌, length};
 ghost use Rattle.std.specs.Prelude.{All, IfOk, OnOk, pos, nat_abs, ◌+ℤ◌, ◌≤ℤ◌};
@@ -6,7 +6,7 @@ ghost use Rattle.book_files.specs.Ranges.{IsInRange};
 ghost use Rattle.book_design.specs.Values.{node_value};
 ghost use Rattle.book_design.specs.Points.{is_movable};
 ghost use Rattle.book_design.specs.WellFormed.{IsGoodPin};
-ghost use Rattle.net_model.specs.Network.{node_at, point_nodes};
+ghost use Rattle.net_model.specs.Numbered.{node_at, point_nodes};
 ghost use Rattle.net_model.specs.Values.{point_entry, point_values};
 ghost use Rattle.net_model.specs.Forms.Steps.{IsUnmarked, AreJoined};
 ghost use Rattle.net_model.specs.Forms.Joining.{AreDistinct, fixed_pin, paired_point, ArePaired};
@@ -17,15 +17,16 @@ use crate::point::NetPoint;
 use book_design::{Design, Node, Pin};
 use std::alloc::{AllocError, Global};
 
-/// The points with what all nets give them: each pair of a net is an entry of its own.
+/// The points of the movable nodes with what all cliques give them: each pair of a net is an entry of its own.
 pub(crate) fn joined_points(
     alloc: Global,
     design: &Design<'_>,
     clique: &mut Clique,
 ) -> Result<Vec<NetPoint>, AllocError>
     requires unmarked { IsUnmarked (length design.now.nodes) clique.old.seen.items }
-    ensures { IfOk result (λ points. AreJoined design.now design.now.nets
+    ensures joined { IfOk result (λ points. AreJoined design.now design.now.nets
         (point_values points.items)) }
+    ensures unmarked { OnOk result (IsUnmarked (length design.now.nodes) clique.new.seen.items) }
 {
     let mut points = unjoined_points(alloc, design)?;
     for net in design.nets() {
@@ -99,8 +100,9 @@ fn pair_point(
     Ok(())
 }
 
-/// Gives a point a pair with a pin's node: a neighbour where that is movable, else a fixed pin.
-fn pair_with(
+/// Gives a point a pair with a pin's node, or a star point a spoke to it: a neighbour where that is
+/// movable, else a fixed pin.
+pub(crate) fn pair_with(
     design: &Design<'_>,
     pin: &Pin,
     weight: u64,
@@ -126,7 +128,7 @@ fn pair_with(
     Ok(())
 }
 
-/// Where a pin of a fixed node stands, with the weight of its pairs.
+/// Where a pin of a fixed node stands, with the weight of its pairs or of its spoke.
 fn fixed_pin(node: &Node<'_>, pin: &Pin, weight: u64) -> FixedPin
     requires x { IsInRange node.now.x }
     requires y { IsInRange node.now.y }

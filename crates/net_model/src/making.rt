@@ -1,21 +1,23 @@
 //! From a design to its network.
 
-ghost use Rattle.std.specs.Prelude.{◌≡◌, ℕ, ◌^◌, ◌<◌, ◌≤◌, length, map, All, IfOk, MatchOption};
+ghost use Rattle.std.specs.Prelude.{◌≡◌, ℕ, ◌^◌, ◌<◌, ◌≤◌, length, map, slice_index, All, IfOk, MatchOption};
 ghost use Rattle.book_design.specs.Faults.{IsFirst};
 ghost use Rattle.book_design.specs.WellFormed.{IsDesign};
 ghost use Rattle.net_model.specs.Answers.{Answers};
-ghost use Rattle.net_model.specs.Network.{network_of, total_weight, terms, IsTooWide};
+ghost use Rattle.net_model.specs.Network.{network_of, total_weight, terms};
+ghost use Rattle.net_model.specs.Star.{star_nets};
 ghost use Rattle.net_model.specs.Forms.Steps.{IsUnmarked, IsUnsummed, summed, IsHeavyPoint};
 ghost use Rattle.net_model.specs.Values.{point_entry, point_values};
 
 use crate::clique::Clique;
-use crate::counting::count_terms;
+use crate::counting::count_nets;
 use crate::fault::{NetError, NetFault};
 use crate::joining::joined_points;
 use crate::limits::{MOST_TERMS, MOST_WEIGHT};
 use crate::merging::merge;
 use crate::model::Network;
 use crate::point::NetPoint;
+use crate::starring::join_stars;
 use book_design::Design;
 use std::alloc::{AllocError, Global};
 
@@ -27,30 +29,43 @@ pub fn network(alloc: Global, design: &Design<'_>) -> Result<Network, NetError>
     ensures { Answers design.now result }
 {
     let mut clique = Clique::new(alloc, design.nodes().len())?;
-    let terms = count_terms(design, &mut clique)?;
-    if terms > MOST_TERMS {
-        return Err(NetError::Fault(NetFault::TooManyEdges(terms)));
+    let count = count_nets(alloc, design, &mut clique)?;
+    if count.terms > MOST_TERMS {
+        return Err(NetError::Fault(NetFault::TooManyEdges(count.terms)));
     }
-    network_of_few(alloc, design, &mut clique)
+    network_of_few(alloc, design, &mut clique, count.stars)
 }
 
-/// The network of a design without a net that is too wide and without too many pair terms, or its
-/// first heavy point.
+/// The net of a star point of a design, by the number of star points before it.
+///
+/// It takes time linear in nodes and pins.
+pub fn star_net(alloc: Global, design: &Design<'_>, star: u32) -> Result<u32, AllocError>
+    requires { star < length (star_nets design.now) }
+    ensures { IfOk result (λ net. net ≡ slice_index (star_nets design.now) star) }
+{
+    let mut clique = Clique::new(alloc, design.nodes().len())?;
+    let count = count_nets(alloc, design, &mut clique)?;
+    Ok(count.stars[star as usize])
+}
+
+/// The network of a design without too many pair terms, with these wide nets, or its first heavy
+/// point.
 fn network_of_few(
     alloc: Global,
     design: &Design<'_>,
     clique: &mut Clique,
+    stars: Vec<u32>,
 ) -> Result<Network, NetError>
     requires unmarked { IsUnmarked (length design.now.nodes) clique.old.seen.items }
-    requires narrow { (n : ℕ) → IsTooWide design.now n → ⊥ }
     requires few { terms design.now ≤ MOST_TERMS }
+    requires stars { stars.items ≡ star_nets design.now }
     ensures { Answers design.now result }
 {
     let core = design.core();
-    let points = summed_points(alloc, design, clique)?;
+    let points = summed_points(alloc, design, clique, &stars)?;
     match first_heavy(&points) {
         Some(point) => Err(NetError::Fault(NetFault::Heavy(point))),
-        None => Ok(Network::new(points, core)),
+        None => Ok(Network::new(points, stars, core)),
     }
 }
 
@@ -59,13 +74,16 @@ fn summed_points(
     alloc: Global,
     design: &Design<'_>,
     clique: &mut Clique,
+    stars: &[u32],
 ) -> Result<Vec<NetPoint>, AllocError>
     requires valid { IsDesign design.now }
     requires unmarked { IsUnmarked (length design.now.nodes) clique.old.seen.items }
+    requires stars { stars.now ≡ star_nets design.now }
     ensures { IfOk result
         (λ points. point_values points.items ≡ (network_of design.now).points) }
 {
     let mut points = joined_points(alloc, design, clique)?;
+    join_stars(alloc, design, clique, stars, &mut points)?;
     merge_entries(&mut points);
     Ok(points)
 }

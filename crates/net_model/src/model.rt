@@ -1,5 +1,5 @@
-ghost use Rattle.std.specs.Prelude.{◌≡◌, ◌<◌, length};
-ghost use Rattle.net_model.specs.Values.{point_at, point_entry, point_values};
+ghost use Rattle.std.specs.Prelude.{◌≡◌, ◌-◌, ◌<◌, ◌≤◌, length, slice_index};
+ghost use Rattle.net_model.specs.Values.{point_at, point_entry, point_values, node_count};
 ghost use Rattle.net_model.specs.WellFormed.{IsNet};
 
 use crate::parts::{FixedPin, Near};
@@ -11,6 +11,8 @@ use std::marker::Model;
 #[derive(Drop)]
 pub struct Network {
     points: Vec<NetPoint>,
+    // the net of each star point; the star points stand behind the movable nodes
+    stars: Vec<u32>,
     core: Core,
 }
 
@@ -20,26 +22,56 @@ impl Model for Network {
 
     ghost Value = { NetworkValue };
 
-    ghost view = { λ n. record { points = point_values n.points.items; core = n.core } };
+    ghost view = { λ n. record { points = point_values n.points.items; stars = n.stars.items; core = n.core } };
 
-    ghost invariant = { λ n. IsNet (record { points = point_values n.points.items; core = n.core }) };
+    ghost invariant = { λ n. IsNet (record { points = point_values n.points.items; stars = n.stars.items; core = n.core }) };
 }
 
 impl Network {
     /// The network of these points.
-    pub(crate) fn new(points: Vec<NetPoint>, core: Core) -> Network
-        requires { IsNet (record { points = point_values points.items; core = core }) }
-        ensures { result ≡ record { points = point_values points.items; core = core } }
+    pub(crate) fn new(points: Vec<NetPoint>, stars: Vec<u32>, core: Core) -> Network
+        requires { IsNet (record {
+          points = point_values points.items;
+          stars = stars.items;
+          core = core;
+        }) }
+        ensures { result ≡ record {
+          points = point_values points.items;
+          stars = stars.items;
+          core = core;
+        } }
     {
-        Network { points, core }
+        Network {
+            points,
+            stars,
+            core,
+        }
     }
 
-    /// How many points there are.
+    /// How many points there are: the movable nodes and the star points.
     pub fn points(&self) -> usize
         ensures points { result ≡ length self.now.points }
         ensures valid { IsNet self.now }
     {
         self.points.len()
+    }
+
+    /// How many of the points are star points. They have the last numbers.
+    pub fn stars(&self) -> usize
+        ensures stars { result ≡ length self.now.stars }
+        ensures valid { IsNet self.now }
+    {
+        self.stars.len()
+    }
+
+    /// The net of a star point, by its number in the file.
+    pub fn net_of(&self, point: u32) -> u32
+        requires star { node_count self.now ≤ point }
+        requires there { point < length self.now.points }
+        ensures net { result ≡ slice_index self.now.stars (point - node_count self.now) }
+        ensures valid { IsNet self.now }
+    {
+        self.stars[point as usize - (self.points.len() - self.stars.len())]
     }
 
     /// The neighbours of a point, in ascending order.
@@ -60,7 +92,7 @@ impl Network {
         &self.points[point as usize].pins
     }
 
-    /// How many sites a point takes.
+    /// How many sites a point takes. A star point takes none.
     pub fn area(&self, point: u32) -> u64
         requires { point < length self.now.points }
         ensures area { result ≡ (point_at self.now.points point).area }

@@ -8,7 +8,7 @@ use Rattle.net_model.specs.declared.parts.Near.{Near}
 use Rattle.net_model.specs.declared.parts.FixedPin.{FixedPin}
 use Rattle.net_model.specs.Values.{PointValue, point_at}
 use Rattle.net_model.specs.Clique.{centre_x, centre_y}
-use Rattle.net_model.specs.Network.{node_at, node_of, point_nodes}
+use Rattle.net_model.specs.Numbered.{node_at, node_of, point_nodes}
 
 -- one of the pins is at the node
 abbrev pub is_at : List Pin → ℕ → Bool

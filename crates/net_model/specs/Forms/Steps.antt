@@ -1,20 +1,19 @@
 -- The steps that make a network: the cliques of the nets, what they give each point, and the sums of it.
-use Rattle.std.specs.Prelude.{◌≡◌, ℕ, ◌^◌, ◌<◌, ◌≤◌, Bool, false, ◌==◌, List, [], length, sum_by, slice_index_or, Option, Some, None, if◌then◌else◌, All, Result, Ok, Err}
+use Rattle.std.specs.Prelude.{◌≡◌, ℕ, ◌^◌, ◌<◌, ◌≤◌, Bool, false, ◌==◌, List, [], length, sum_by, slice_index_or, Option, Some, None, if◌then◌else◌, All}
 use Rattle.std.specs.List.{filter_map, flat_map, range_with_len}
 use Rattle.book_design.specs.declared.parts.Pin.{Pin}
 use Rattle.book_design.specs.Values.{NetValue, DesignValue}
 use Rattle.book_design.specs.Points.{site_count}
-use Rattle.book_design.specs.Faults.{IsFirst}
 use Rattle.net_model.specs.declared.limits.TheConstants.{MOST_WEIGHT}
 use Rattle.net_model.specs.declared.parts.Near.{Near}
 use Rattle.net_model.specs.declared.parts.FixedPin.{FixedPin}
 use Rattle.net_model.specs.Values.{PointValue, point_at}
-use Rattle.net_model.specs.declared.fault.NetError.{NetError}
-use Rattle.net_model.specs.declared.fault.NetError.TheVariants.{Fault, Memory}
-use Rattle.net_model.specs.declared.fault.NetFault.TheVariants.{NetTooWide}
+use Rattle.net_model.specs.declared.counting.NetCount.{NetCount}
 use Rattle.net_model.specs.Clique.{first_pins, share, has_node}
 use Rattle.net_model.specs.Forms.Joining.{is_at, paired_near}
-use Rattle.net_model.specs.Network.{node_at, node_of, point_nodes, pins_in, total_weight, terms, IsTooWide}
+use Rattle.net_model.specs.Network.{pins_in, total_weight, terms}
+use Rattle.net_model.specs.Numbered.{node_at, node_of, point_nodes}
+use Rattle.net_model.specs.Star.{star_nets}
 
 -- no node is marked as seen, of so many
 pub record IsUnmarked (nodes : ℕ) (seen : List Bool) : Type 0 where
@@ -29,12 +28,10 @@ AreMarked pins seen = (i : ℕ) → i < length seen → slice_index_or seen i fa
 abbrev pub AreAtNodes : ℕ → List Pin → Type 0
 AreAtNodes nodes pins = All (λ pin. pin.node < nodes) pins
 
--- how many pair terms there are where no net is too wide, or the first net that is
-abbrev pub Counts : DesignValue → Result ℕ NetError → Type 0
-Counts design (Ok number) = ((n : ℕ) → IsTooWide design n → ⊥) × (number ≡ terms design)
-Counts design (Err (Fault (NetTooWide n))) = IsFirst (IsTooWide design) n
-Counts design (Err (Fault other)) = ⊥
-Counts design (Err Memory) = Unit {0}
+-- the number of pair terms, and the wide nets
+pub record Counts (design : DesignValue) (count : NetCount) : Type 0 where
+  pub terms : count.terms ≡ terms design
+  pub stars : count.stars.items ≡ star_nets design
 
 -- the neighbours that a net gives a node; none of weight 0
 abbrev pub nears_in : DesignValue → ℕ → NetValue → List Near
