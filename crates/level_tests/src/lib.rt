@@ -11,3 +11,5 @@ mod designs;
 mod levels;
 #[cfg(test)]
 mod networks;
+#[cfg(test)]
+mod stars;

@@ -200,52 +200,6 @@ fn the_nets_of_two_nodes_are_summed(rt: HostRuntime) {
     }
 }
 
-/// So many cells.
-fn cells(alloc: Global, count: u32) -> Result<String, AllocError> {
-    let mut text = format!(in alloc; "UCLA nodes 1.0\nNumNodes : {count}\n")?;
-    for k in 0..count {
-        text.push_str(&format!(in alloc; "c{k} 1 10\n")?)?;
-    }
-    Ok(text)
-}
-
-/// So many nets of 512 cells, and a last one of so many.
-fn crowded_nets(alloc: Global, count: u16, last: u16) -> Result<String, AllocError> {
-    let nets = u32::from(count) + 1;
-    let pins = 512 * u32::from(count) + u32::from(last);
-    let mut text = format!(in alloc; "UCLA nets 1.0\nNumNets : {nets}\nNumPins : {pins}\n")?;
-    for n in 0..nets {
-        let degree = if n < u32::from(count) { 512 } else { last };
-        text.push_str(&format!(in alloc; "NetDegree : {degree}\n")?)?;
-        for k in 0..degree {
-            text.push_str(&format!(in alloc; "c{k} B\n")?)?;
-        }
-    }
-    Ok(text)
-}
-
-/// How many nodes the last net has, and the fault.
-const CROWDED: &[(u16, NetFault)] = &[
-    (1, NetFault::TooManyEdges(16_875_264)),
-    (513, NetFault::NetTooWide(129)),
-];
-
-#[test]
-fn a_wide_net_goes_before_too_many_pairs(rt: HostRuntime) {
-    let nodes = cells(rt.alloc(), 513).expect(&rt, "memory");
-    for (last, fault) in CROWDED {
-        let nets = crowded_nets(rt.alloc(), 129, *last).expect(&rt, "memory");
-        let texts = Texts {
-            nodes: nodes.as_bytes(),
-            nets: nets.as_bytes(),
-            ..C
-        };
-        let pl = b"UCLA pl 1.0\n";
-        let found = made(&rt, rt.alloc(), &Texts { pl, ..texts }).err();
-        assert_eq!(rt; found, Some(NetError::Fault(*fault)));
-    }
-}
-
 /// So many nets of the pad and cell b, all of one name.
 fn repeated_nets(alloc: Global, count: u16) -> Result<String, AllocError> {
     let pins = 2 * u32::from(count);

@@ -243,14 +243,24 @@ fn points_that_reach_no_pad_are_named(rt: HostRuntime) -> Result<(), Fail> {
 }
 
 /// Some text, and behind it a line for each number below `count`, which stands in the line.
-fn lines_of(
+pub(crate) fn lines_of(
     alloc: Global,
     head: &str,
     before: &str,
     after: &str,
     count: u32,
 ) -> Result<Vec<u8>, Memory> {
-    let mut text = Vec::from_slice(alloc, head.as_bytes())?;
+    with_lines(alloc, Vec::from_slice(alloc, head.as_bytes())?, before, after, count)
+}
+
+/// A text with such lines behind it.
+pub(crate) fn with_lines(
+    alloc: Global,
+    mut text: Vec<u8>,
+    before: &str,
+    after: &str,
+    count: u32,
+) -> Result<Vec<u8>, Memory> {
     for number in 0..count {
         let line = format!(in alloc; "{before}{number}{after}\n")?;
         text.extend_from_slice(line.as_bytes())?;
@@ -318,74 +328,25 @@ fn points_that_are_too_heavy_are_named(rt: HostRuntime) -> Result<(), Fail> {
     Ok(())
 }
 
-/// One net of two cells and so many pads, all at one place, solved without a cut.
-fn assert_many_pads<R: Threads + Abort + Sync>(
-    rt: &R,
-    alloc: Global,
-    pads: u32,
-    end: End,
-) -> Result<(), Memory> {
-    let nodes = u64::from(pads) + 2;
-    let head = format!(in alloc; "UCLA nodes 1.0\nNumNodes : {nodes}\na 2 10\nb 2 10\n")?;
-    let node_text = lines_of(alloc, head.as_str(), "p", " 0 0 terminal", pads)?;
-    let head = format!(in alloc;
-        "UCLA nets 1.0\nNumNets : 1\nNumPins : {nodes}\nNetDegree : {nodes}\na B\nb B\n"
-    )?;
-    let net_text = lines_of(alloc, head.as_str(), "p", " B", pads)?;
-    let place_text = lines_of(alloc, "UCLA pl 1.0\n", "p", " 0 5 : N /FIXED", pads)?;
-    let texts = Texts {
-        nodes: node_text.as_slice(),
-        nets: net_text.as_slice(),
-        pl: place_text.as_slice(),
-        ..ONE_CELL
-    };
-    let file = lines_of(
-        alloc,
-        "UCLA pl 1.0\na 0 0 : N\nb 2 0 : N\n",
-        "p",
-        " 0 5 : N /FIXED",
-        pads,
-    )?;
-    let case = Case {
-        words: &["proud", "--levels", "0", "a.aux"],
-        ..end.of(texts, file.as_slice())
-    };
-    assert_case(rt, alloc, case)
-}
-
-#[test]
-fn nets_that_are_too_wide_are_named(rt: HostRuntime) -> Result<(), Fail> {
-    let narrow = End {
-        status: Status::Done,
-        report: b"cells 2 terminals 510 nets 1 pins 512\nlevels 0 gap 2\nwire 3\n",
-    };
-    assert_many_pads(&rt, rt.alloc(), 510, narrow)?;
-    let wide = End {
-        status: Status::Refused(Refusal::Net(NetFault::NetTooWide(0))),
-        report: b"proud: net 0: too wide\n",
-    };
-    assert_many_pads(&rt, rt.alloc(), 511, wide)?;
-    Ok(())
-}
-
-/// 512 cells stand in each of 129 nets.
+/// Sixteen cells stand in each of 139,811 nets.
 #[test]
 fn nets_with_too_many_edges_are_named(rt: HostRuntime) -> Result<(), Fail> {
     let alloc = rt.alloc();
-    let node_text = lines_of(alloc, "UCLA nodes 1.0\nNumNodes : 512\n", "c", " 2 10", 512)?;
-    let net = lines_of(alloc, "NetDegree : 512\n", "c", " B", 512)?;
-    let mut net_text = Vec::from_slice(alloc, b"UCLA nets 1.0\nNumNets : 129\nNumPins : 66048\n")?;
-    for _ in 0..129 {
+    let net = lines_of(alloc, "NetDegree : 16\n", "c", " B", 16)?;
+    let mut net_text =
+        Vec::from_slice(alloc, b"UCLA nets 1.0\nNumNets : 139811\nNumPins : 2236976\n")?;
+    for _ in 0..139_811 {
         net_text.extend_from_slice(&net)?;
     }
+    let node_text = lines_of(alloc, "UCLA nodes 1.0\nNumNodes : 16\n", "c", " 2 10", 16)?;
     let texts = Texts {
         nodes: node_text.as_slice(),
         nets: net_text.as_slice(),
         pl: b"UCLA pl 1.0\n",
         ..ONE_CELL
     };
-    let refused = Status::Refused(Refusal::Net(NetFault::TooManyEdges(16_875_264)));
-    let line = b"proud: too many edges: 16875264\n";
+    let refused = Status::Refused(Refusal::Net(NetFault::TooManyEdges(16_777_320)));
+    let line = b"proud: too many edges: 16777320\n";
     assert_case(&rt, alloc, case_of(texts, refused, line))?;
     Ok(())
 }

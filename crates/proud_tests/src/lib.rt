@@ -29,6 +29,8 @@ mod seats;
 #[cfg(test)]
 mod standing;
 #[cfg(test)]
+mod stars;
+#[cfg(test)]
 mod statuses;
 #[cfg(test)]
 mod words;

@@ -13,7 +13,7 @@ fn limits_are_those_of_the_rules(rt: HostRuntime) {
     assert_eq!(rt; book_design::MOST_NET_WEIGHT, 65_535);
     assert_eq!(rt; book_design::ROWS_END, 1_000_000_000_000);
     assert_eq!(rt; net_model::NET_WEIGHT, 840);
-    assert_eq!(rt; net_model::MOST_NET_NODES, 512);
+    assert_eq!(rt; net_model::MOST_CLIQUE, 16);
     assert_eq!(rt; net_model::MOST_TERMS, 16_777_216);
     assert_eq!(rt; net_model::MOST_WEIGHT, 1 << 40);
     assert_eq!(rt; pad_reach::MOST_POINTS, 2_097_152);

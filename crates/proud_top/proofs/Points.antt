@@ -11,7 +11,8 @@ use Rattle.book_design.specs.Values.{NodeValue, DesignValue}
 use Rattle.book_design.specs.Points.{is_movable, node_value_at, movable_before}
 use Rattle.net_model.specs.Values.{NetworkValue}
 use Rattle.net_model.specs.declared.fault.NetFault.TheVariants.{Heavy}
-use Rattle.net_model.specs.Network.{IsNetwork, IsFirstFault, point_nodes, point_value}
+use Rattle.net_model.specs.Network.{IsNetwork, IsFirstFault, point_value}
+use Rattle.net_model.specs.Numbered.{point_nodes}
 use Rattle.area_cut.specs.declared.axis.Axis.{Axis}
 use Rattle.area_cut.specs.declared.axis.Axis.TheVariants.{X, Y}
 use Rattle.area_cut.specs.declared.region.Region.{Region}
