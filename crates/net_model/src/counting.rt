@@ -57,7 +57,8 @@ fn is_wide(design: &Design<'_>, net: &Net, first: &[Pin]) -> bool
     requires first { first.now ≡ first_pins net.now.pins }
     ensures { result ≡ is_wide design.now (net_value net.now) }
 {
-    first.len() > MOST_CLIQUE && net.weight > 0 && has_movable(design, first)
+    let nodes = first.len();
+    nodes > MOST_CLIQUE && net.weight > 0 && has_movable(design, first)
 }
 
 /// Whether one of the pins is at a movable node.
