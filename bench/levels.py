@@ -94,11 +94,25 @@ class Network:
         self.near = [{} for _ in design.cells]
         self.pins = [[] for _ in design.cells]
         for weight, pins in design.nets:
-            share = 840 * weight // (len(pins) - 1) if len(pins) > 1 else 0
-            for one in pins:
-                for other in pins:
-                    if share > 0 and one != other and one in self.number:
-                        self.join(design, self.number[one], other, share, pins[other])
+            if len(pins) > 16 and weight > 0 and not design.fixed.issuperset(pins):
+                self.join_star(design, 840 * weight * len(pins) // (len(pins) - 1), pins)
+            elif 2 <= len(pins) <= 16:
+                share = 840 * weight // (len(pins) - 1)
+                for one in pins:
+                    for other in pins:
+                        if share > 0 and one != other and one in self.number:
+                            self.join(design, self.number[one], other, share, pins[other])
+
+    def join_star(self, design, spoke, pins):
+        """Joins the nodes of a wide net to a point of its own, which takes no site."""
+        star = len(self.near)
+        self.areas.append(0)
+        self.near.append({})
+        self.pins.append([])
+        for name, offset in pins.items():
+            self.join(design, star, name, spoke, offset)
+            if name in self.number:
+                self.near[self.number[name]][star] = spoke
 
     def join(self, design, point, other, share, offset):
         if other in self.number:

@@ -1,15 +1,15 @@
-//! The network of a design by hand in plain Rust: each net a clique, each point with its neighbours in flat arrays.
+//! The network of a design by hand in plain Rust: each net a clique or a star, each point with its neighbours in flat arrays.
 
 use crate::design::{Design, Net, Pin};
 
-const WIDEST: usize = 512;
+const LARGEST_CLIQUE: usize = 16;
 const MOST_TERMS: u64 = 1 << 24;
 const HEAVIEST: u64 = 1 << 40;
 
 pub enum Fault {
-    NetTooWide(usize),
     TooManyEdges(u64),
     Heavy(usize),
+    HeavyNet(usize),
     Unanchored(usize),
 }
 
@@ -24,9 +24,9 @@ pub struct FixedPin {
 /// its fixed pins at `pin_starts[i]..pin_starts[i + 1]` of `pins`.
 #[derive(Default)]
 pub struct Network {
-    /// The node that each point is.
+    /// The node that each of the first points is. The star points stand behind them.
     pub nodes: Vec<usize>,
-    /// How many sites each point takes.
+    /// How many sites each point takes; a star point takes none.
     pub areas: Vec<u64>,
     pub starts: Vec<usize>,
     pub numbers: Vec<u32>,
@@ -36,10 +36,11 @@ pub struct Network {
     pub totals: Vec<u64>,
 }
 
-/// The first pin of each distinct node of a net, and the weight of each pair of them.
-struct Clique {
+/// How a net joins its nodes: the first pin of each, and the weight of each pair of them, or of the spoke of each to a star point.
+struct Joint {
     pins: Vec<Pin>,
-    share: u64,
+    weight: u64,
+    star: Option<usize>,
 }
 
 const NO_POINT: u32 = u32::MAX;
@@ -54,11 +55,14 @@ pub fn network(design: &Design) -> Result<Network, Fault> {
             network.areas.push(sites_of(node.width, design.pitch));
         }
     }
-    let cliques = cliques_of(design)?;
-    network.join(design, &points, &cliques);
+    let (joints, stars) = joints_of(design, network.nodes.len())?;
+    network.areas.resize(network.nodes.len() + stars.len(), 0);
+    network.join(design, &points, &joints);
     network.add_up();
+    let cells = network.nodes.len();
     match network.totals.iter().position(|total| *total > HEAVIEST) {
-        Some(point) => Err(Fault::Heavy(point)),
+        Some(point) if point < cells => Err(Fault::Heavy(point)),
+        Some(point) => Err(Fault::HeavyNet(stars[point - cells])),
         None => Ok(network),
     }
 }
@@ -80,35 +84,42 @@ fn pairs(k: usize) -> u64 {
     (k * k.saturating_sub(1) / 2) as u64
 }
 
-/// The cliques of the nets, where none is too wide and they have few pairs.
-fn cliques_of(design: &Design) -> Result<Vec<Clique>, Fault> {
+/// How the nets join their nodes, and the wide ones among them, where there are few pairs and spokes. There are so many cells.
+fn joints_of(design: &Design, cells: usize) -> Result<(Vec<Joint>, Vec<usize>), Fault> {
     let mut last_net = vec![usize::MAX; design.nodes.len()];
-    let mut cliques = Vec::with_capacity(design.nets.len());
+    let mut joints = Vec::with_capacity(design.nets.len());
+    let mut stars = Vec::new();
     let mut terms = 0;
     for (n, net) in design.nets.iter().enumerate() {
         let pins = first_pins(net, n, &mut last_net);
         let degree = pins.len();
-        if degree > WIDEST {
-            return Err(Fault::NetTooWide(n));
+        let fixed = pins
+            .iter()
+            .filter(|pin| design.nodes[pin.node as usize].fixed);
+        let fixed = fixed.count();
+        if degree < 2 || net.weight == 0 || fixed == degree {
+            continue;
         }
-        let share = if degree < 2 {
-            0
-        } else {
-            840 * net.weight / (degree as u64 - 1)
-        };
-        if share > 0 {
-            let fixed = pins
-                .iter()
-                .filter(|pin| design.nodes[pin.node as usize].fixed)
-                .count();
+        if degree <= LARGEST_CLIQUE {
+            let weight = 840 * net.weight / (degree as u64 - 1);
             terms += pairs(degree) - pairs(fixed);
-            cliques.push(Clique { pins, share });
+            joints.push(Joint {
+                pins,
+                weight,
+                star: None,
+            });
+        } else {
+            let weight = 840 * net.weight * degree as u64 / (degree as u64 - 1);
+            let star = Some(cells + stars.len());
+            terms += degree as u64;
+            stars.push(n);
+            joints.push(Joint { pins, weight, star });
         }
     }
     if terms > MOST_TERMS {
         Err(Fault::TooManyEdges(terms))
     } else {
-        Ok(cliques)
+        Ok((joints, stars))
     }
 }
 
@@ -124,9 +135,9 @@ fn first_pins(net: &Net, number: usize, last_net: &mut [usize]) -> Vec<Pin> {
     pins
 }
 
-/// The points of a clique.
-fn movable<'a>(clique: &'a Clique, points: &'a [u32]) -> impl Iterator<Item = usize> + 'a {
-    clique
+/// The points of a net's movable nodes.
+fn movable<'a>(joint: &'a Joint, points: &'a [u32]) -> impl Iterator<Item = usize> + 'a {
+    joint
         .pins
         .iter()
         .map(|pin| points[pin.node as usize])
@@ -148,46 +159,74 @@ fn place_of(design: &Design, pin: &Pin) -> [u64; 2] {
 }
 
 impl Network {
-    /// What the cliques give each point: its neighbours net by net, and its fixed pins.
-    fn join(&mut self, design: &Design, points: &[u32], cliques: &[Clique]) {
-        self.count(points, cliques);
+    /// How many points there are.
+    pub fn points(&self) -> usize {
+        self.areas.len()
+    }
+
+    /// What the nets give each point: its neighbours net by net, and its fixed pins.
+    fn join(&mut self, design: &Design, points: &[u32], joints: &[Joint]) {
+        self.count(points, joints);
         let (mut free, mut free_pins) = (self.starts.clone(), self.pin_starts.clone());
-        for clique in cliques {
-            let fixed: Vec<FixedPin> = clique
-                .pins
-                .iter()
-                .filter(|pin| points[pin.node as usize] == NO_POINT)
+        for joint in joints {
+            let fixed = joint.pins.iter();
+            let fixed = fixed.filter(|pin| points[pin.node as usize] == NO_POINT);
+            let fixed: Vec<FixedPin> = fixed
                 .map(|pin| FixedPin {
-                    weight: clique.share,
+                    weight: joint.weight,
                     place: place_of(design, pin),
                 })
                 .collect();
-            for point in movable(clique, points) {
-                let pins = &mut free_pins[point];
-                self.pins[*pins..*pins + fixed.len()].copy_from_slice(&fixed);
-                *pins += fixed.len();
-                self.totals[point] += clique.share * fixed.len() as u64;
-                for other in movable(clique, points).filter(|other| *other != point) {
-                    let at = &mut free[point];
-                    self.numbers[*at] = other as u32;
-                    self.weights[*at] = clique.share;
-                    *at += 1;
+            if let Some(star) = joint.star {
+                self.pin(star, &fixed, &mut free_pins);
+                for point in movable(joint, points) {
+                    self.enter(point, star, joint.weight, &mut free);
+                    self.enter(star, point, joint.weight, &mut free);
+                }
+                continue;
+            }
+            for point in movable(joint, points) {
+                self.pin(point, &fixed, &mut free_pins);
+                for other in movable(joint, points).filter(|other| *other != point) {
+                    self.enter(point, other, joint.weight, &mut free);
                 }
             }
         }
     }
 
-    /// Room for what the cliques give each point.
-    fn count(&mut self, points: &[u32], cliques: &[Clique]) {
-        let count = self.nodes.len();
+    /// Gives a point these fixed pins.
+    fn pin(&mut self, point: usize, fixed: &[FixedPin], free_pins: &mut [usize]) {
+        let at = &mut free_pins[point];
+        self.pins[*at..*at + fixed.len()].copy_from_slice(fixed);
+        *at += fixed.len();
+        self.totals[point] += fixed.iter().map(|pin| pin.weight).sum::<u64>();
+    }
+
+    /// Gives a point this neighbour.
+    fn enter(&mut self, point: usize, other: usize, weight: u64, free: &mut [usize]) {
+        let at = &mut free[point];
+        self.numbers[*at] = other as u32;
+        self.weights[*at] = weight;
+        *at += 1;
+    }
+
+    /// Room for what the nets give each point.
+    fn count(&mut self, points: &[u32], joints: &[Joint]) {
+        let count = self.points();
         self.totals = vec![0; count];
         self.starts = vec![0; count + 1];
         self.pin_starts = vec![0; count + 1];
-        for clique in cliques {
-            let many = movable(clique, points).count();
-            for point in movable(clique, points) {
-                self.starts[point + 1] += many - 1;
-                self.pin_starts[point + 1] += clique.pins.len() - many;
+        for joint in joints {
+            let many = movable(joint, points).count();
+            let fixed = joint.pins.len() - many;
+            let others = if joint.star.is_some() { 1 } else { many - 1 };
+            for point in movable(joint, points) {
+                self.starts[point + 1] += others;
+                self.pin_starts[point + 1] += if joint.star.is_some() { 0 } else { fixed };
+            }
+            if let Some(star) = joint.star {
+                self.starts[star + 1] += many;
+                self.pin_starts[star + 1] += fixed;
             }
         }
         for point in 0..count {
@@ -203,7 +242,7 @@ impl Network {
     fn add_up(&mut self) {
         let mut row = Vec::new();
         let mut end = 0;
-        for point in 0..self.nodes.len() {
+        for point in 0..self.points() {
             let part = self.starts[point]..self.starts[point + 1];
             row.clear();
             row.extend(part.map(|k| (self.numbers[k], self.weights[k])));

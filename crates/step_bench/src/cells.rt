@@ -14,7 +14,8 @@ use relax_system::MOST_COORDINATE;
 use row_legal::{MOST_CELL_SITES, MOST_CELLS, MOST_WISH, Wish};
 use std::alloc::{AllocError, Global};
 
-/// Where the cells stand: their middles on x and on y as coordinates, clamped to the core, and their lower left corners.
+/// Where the cells stand: their middles on x and on y as coordinates, clamped to the core, behind which come those of the star
+/// points, and their lower left corners.
 #[derive(Drop)]
 pub struct Cells {
     pub xs: Vec<u64>,
@@ -22,8 +23,12 @@ pub struct Cells {
     pub wishes: Vec<Wish>,
 }
 
-/// The cells of a design.
-pub fn cells_as_placed(alloc: Global, design: &Design<'_>) -> Result<Cells, AllocError> {
+/// The cells of a design, and so many star points, each in the middle of the core.
+pub fn cells_as_placed(
+    alloc: Global,
+    design: &Design<'_>,
+    stars: usize,
+) -> Result<Cells, AllocError> {
     let core = design.core();
     let mut xs = Vec::new(alloc);
     let mut ys = Vec::new(alloc);
@@ -38,12 +43,21 @@ pub fn cells_as_placed(alloc: Global, design: &Design<'_>) -> Result<Cells, Allo
             })?;
         }
     }
+    for _ in 0..stars {
+        xs.push(between(core.xlo, core.xhi))?;
+        ys.push(between(core.ylo, core.yhi))?;
+    }
     Ok(Cells { xs, ys, wishes })
 }
 
 /// The coordinate of a middle, clamped between two ends.
 fn middle(at: i64, size: i64, low: i64, high: i64) -> u64 {
     coordinate(at.saturating_add(size / 2).min(high).max(low))
+}
+
+/// The coordinate in the middle between two ends.
+fn between(low: i64, high: i64) -> u64 {
+    middle(low, high.saturating_sub(low), low, high)
 }
 
 /// A place in millionths as a coordinate, clamped to what a coordinate may be.

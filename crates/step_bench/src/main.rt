@@ -78,7 +78,7 @@ fn run<R: Threads + Sync>(threads: &R, rt: &HostRuntime) -> Answer<()> {
     };
     watch.end("reach", &Points(network.points()))?;
     let areas = areas(alloc, &network)?;
-    let Ok(cells) = cells_as_placed(alloc, &design) else {
+    let Ok(cells) = cells_as_placed(alloc, &design, network.stars()) else {
         return Err(NO_MEMORY);
     };
     let systems = measure_levels(alloc, &mut watch, &network, &areas, &cells, asked.cuts)?;

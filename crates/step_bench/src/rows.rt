@@ -24,7 +24,9 @@ pub fn measure_rows<R: Threads + Sync>(
     cells: &Cells,
     times: u32,
 ) -> Answer<()> {
-    if !are_good(areas, &cells.wishes) {
+    // The star points stand behind the cells.
+    let sites = &areas[..areas.len().min(cells.wishes.len())];
+    if !are_good(sites, &cells.wishes) {
         return Err("the cells are beyond what may be placed");
     }
     watch.begin()?;
@@ -32,7 +34,7 @@ pub fn measure_rows<R: Threads + Sync>(
         return Err(NO_MEMORY);
     };
     watch.end("segments", &segments)?;
-    let Ok(places) = legalise(alloc, &segments, areas, &cells.wishes) else {
+    let Ok(places) = legalise(alloc, &segments, sites, &cells.wishes) else {
         return Err("there is no room for a cell, or memory is wanting");
     };
     watch.end("legalise", &places)?;
