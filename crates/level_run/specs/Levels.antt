@@ -32,7 +32,7 @@ pub record IsLevel (network : NetworkValue) (over : List Region) (xs ys : List �
   pub x : IsSolve (level_system X network over xs) level.x
   pub y : IsSolve (level_system Y network over ys) level.y
 
--- the core with all points
+-- the core with all points: the movable nodes, and behind them the star points
 abbrev pub core_region : NetworkValue → Region
 core_region network = record {
   xlo = coordinate network.core.xlo;
@@ -42,7 +42,7 @@ core_region network = record {
   points = range_with_len 0 (length network.points);
 }
 
--- the areas of the points
+-- the areas of the points; that of a star point is 0
 abbrev pub areas_of : NetworkValue → List ℕ
 areas_of network = map (λ point. point.area) network.points
 

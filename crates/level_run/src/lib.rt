@@ -2,8 +2,8 @@
 //!
 //! The first level has one region, the core. Each further level cuts the regions of the one before by area, and its systems
 //! are those of the regions' points: neighbours in other regions stand still at the mids of the level before, clamped into
-//! the region. What comes in is a network from each point of which a chain leads to a pad; what goes out is its levels, or
-//! `Memory`.
+//! the region. The points are those of the network: its movable nodes, and behind them the star points of its wide nets, which take
+//! no sites. What comes in is a network from each point of which a chain leads to a pad; what goes out is its levels, or `Memory`.
 //!
 //! The contract: `levels`, which a crew solves, and `levels_by`, which plays a schedule, answer `IsLevels`, and the law `levels_are_one` says that there is exactly one such list.
 #![tactic(auto)]

@@ -23,7 +23,8 @@ use std::alloc::Global;
 ///
 /// Coordinates are millionths shifted by `MOST_MICRO`, so that none is negative. A point's neighbours in its own region
 /// are variables. All others are constants, and so are its fixed pins: a neighbour at its mid, clamped to its own region's
-/// range and then to the point's, a fixed pin at its place, clamped to the point's range. `mids` has an entry for each point.
+/// range and then to the point's, a fixed pin at its place, clamped to the point's range. `mids` has an entry for each point,
+/// with those of the star points behind those of the movable nodes.
 ///
 /// Only want of memory is refused. It takes time linear in the network's entries.
 pub fn project(
