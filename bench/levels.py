@@ -249,7 +249,7 @@ def corners(design, network, solved):
     mids = [[(lower + upper) // 2 for lower, upper in zip(*pair)] for pair in solved]
     wishes = [tuple(mids[axis][point] - design.size[name][axis] // 2 for axis in (0, 1))
               for point, name in enumerate(design.cells)]
-    rows, sites, found = list(segments(design)), network.areas, {}
+    rows, sites, found = list(segments(design)), network.areas[:len(design.cells)], {}
     chosen = choices(rows, design.pitch, sites, wishes)
     for s, segment in enumerate(rows):
         row = sorted((cell for cell in chosen if chosen[cell] == s), key=lambda cell: (wishes[cell][0], cell))

@@ -1,5 +1,6 @@
 #!/usr/bin/env python3
-"""Writes the files of two examples beside this script: an adder in `ripple_adder`, and registers on a bus in `bus`."""
+"""Writes the files of three examples beside this script: an adder in `ripple_adder`, registers on a bus in `bus`, and a shift
+register with a wide clock in `wide_net`."""
 import os
 
 ROW_HEIGHT = 12
@@ -108,5 +109,23 @@ def bus(bits=8):
     return wires
 
 
+def wide_net(bits=24):
+    """A shift register whose clock joins all of its flip-flops and two pads, and whose output is looked at after each eight bits."""
+    register = Design("wide_net", rows=4, sites=72)
+    register.cells = {f"bit[{k}]": 10 for k in range(bits)}
+    register.pad("clock", -4, register.top() // 2)
+    register.pad("clock_out", register.sites + 2, register.top() // 2)
+    register.pad("serial", -4, 6)
+    for k in range(7, bits, 8):
+        register.pad(f"out[{k}]", register.sites + 2, 2 * k - 12)
+    register.net("clock", ["clock"], [*register.cells, "clock_out"])
+    register.net("serial", ["serial"], ["bit[0]"], weight=2)
+    for k in range(bits):
+        below = [f"bit[{k + 1}]"] if k + 1 < bits else []
+        register.net(f"q[{k}]", [f"bit[{k}]"], below + ([f"out[{k}]"] if k % 8 == 7 else []), weight=2)
+    return register
+
+
 ripple_adder().write()
 bus().write()
+wide_net().write()

@@ -117,7 +117,7 @@ fn are_points(rt: &impl Abort, network: &Network, case: &Case) {
 
 /// Each point has these two entries.
 fn is_solved(rt: &impl Abort, solve: &Solve, points: usize, entries: (u64, u64)) {
-    assert_eq!(rt; (solve.lo.len(), solve.hi.len()), (points, points));
+    assert_eq!(rt; (solve.lo.as_slice().len(), solve.hi.as_slice().len()), (points, points));
     assert!(rt; solve.lo.as_slice().iter().all(|lo| *lo == entries.0));
     assert!(rt; solve.hi.as_slice().iter().all(|hi| *hi == entries.1));
 }
