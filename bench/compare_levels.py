@@ -6,10 +6,10 @@ behind its name, is run as PROGRAM --levels N AUX. Compared are its status, what
 beside the design, which is looked at by legal.py too.
 
 The designs have cores from a millionth to some hundred thousand units wide, so that means round, mids tie, sides of regions
-come to 0, and sums pass 64 bits; pads inside the core and far outside, cells of no width, nets with a node twice, and weights
-of 0. Rows have one or more subrows, some without sites, stand in any order, with gaps between them or in columns that are
-shifted against each other, so that wishes lie beside them all. Fixed blocks, some of them flat, cover sites in whole or in part,
-and touch others; now and then there is no room for all cells.
+come to 0, and sums pass 64 bits; pads inside the core and far outside, cells of no width, nets with a node twice, nets of
+15 to 20 nodes, and weights of 0. Rows have one or more subrows, some without sites, stand in any order, with gaps between them or
+in columns that are shifted against each other, so that wishes lie beside them all. Fixed blocks, some of them flat, cover sites
+in whole or in part, and touch others; now and then there is no room for all cells.
 """
 import argparse
 import collections
@@ -80,7 +80,7 @@ def random_design(rng):
     left, right = min(x for x, _, _ in wide), max(x + sites * pitch for x, _, sites in wide)
     bottom, top = min(y for _, y, _ in wide), max(y for _, y, _ in wide) + height
     cells = [f"c{i}" for i in range(rng.randint(0, 14))]
-    pads = [f"p{i}" for i in range(rng.randint(1, 4))]
+    pads = [f"p{i}" for i in range(rng.choice([1, 2, 3, 4, 18]))]
     clear = rng.random() < 0.2
     blocks = [] if clear else [f"b{i}" for i in range(rng.randint(0, 3))]
     place = lambda low, side: max(-MOST, min(rng.randint(low - side, low + 2 * side), MOST))
@@ -89,6 +89,9 @@ def random_design(rng):
     places |= {block: rng.choice([on_site(), (rng.randint(left, right), rng.randint(bottom, top))]) for block in blocks}
     pins = [[rng.choice(cells[:i] + pads), cell] for i, cell in enumerate(cells)]
     pins += [rng.choices(cells + pads + blocks, k=rng.randint(1, 5)) for _ in range(rng.randint(0, 2 * len(cells)))]
+    for _ in range(rng.choice([0, 0, 1, 2])):
+        everyone = cells + pads + blocks
+        pins.append(rng.sample(everyone, min(len(everyone), rng.randint(15, 20))))
     rng.shuffle(pins)
     # A net of two nodes may be one of a chain, so it weighs something.
     scale, named = rng.choice([(1, 0.5), (20000, 1)])

@@ -9,11 +9,14 @@ two to five pins, which stand off their nodes' middles. There are pads at both e
 above, each in a net with the cell beside it; each macro is in a net with a cell at each of its sides. Every third net has a
 weight of 1 to 4. SEED, by default 1, is where the numbers without a pattern begin.
 
+END `clock` gives the same with a further net that has a pin at each cell, and `buses` with a further net for each 100 cells, which
+has pins at 500 of them.
+
 END `row` gives a design of COUNT subrows, 8 sites each, side by side in one row, under a fiftieth as many fixed blocks that are as
 high as the row, with as many cells, 1 wide, in a chain between two pads.
 
-END `wide` and `apart` give designs of COUNT nodes and as many nets of four pins, which are refused: `wide` at its first net,
-which has 513 nodes, and so behind the join; `apart` at its last node, which is in no net, and so behind the search for pads.
+END `apart` gives a design of COUNT nodes and as many nets of four pins, which is refused at its last node, which is in no net, and
+so behind the search for pads.
 """
 import random
 import sys
@@ -40,15 +43,14 @@ def refused():
     """Nodes without a pattern of places, and nets across the whole core."""
     terminals = count // 100
     rows = 1000
-    in_nets = count - 1 if end == "apart" else count
+    in_nets = count - 1
     names = [f"t{i}" if i < terminals else f"o{i}" for i in range(count)]
     put("nodes", ["UCLA nodes 1.0", f"NumNodes : {count}", f"NumTerminals : {terminals}"]
         + [f"\t{names[i]}\t{i % 7 + 1}\t12" + ("\tterminal" if i < terminals else "") for i in range(count)])
-    degrees = [513 if end == "wide" and i == 0 else 4 for i in range(count)]
-    nets = ["UCLA nets 1.0", f"NumNets : {count}", f"NumPins : {sum(degrees)}"]
-    for i, degree in enumerate(degrees):
-        nets.append(f"NetDegree : {degree} n{i}")
-        nets.extend(f"\t{names[(i + k * 7919) % in_nets]}\tI : {k}.500000\t-0.250000" for k in range(degree))
+    nets = ["UCLA nets 1.0", f"NumNets : {count}", f"NumPins : {4 * count}"]
+    for i in range(count):
+        nets.append(f"NetDegree : 4 n{i}")
+        nets.extend(f"\t{names[(i + k * 7919) % in_nets]}\tI : {k}.500000\t-0.250000" for k in range(4))
     put("nets", nets)
     put("wts", ["UCLA wts 1.0"] + [f"n{i}\t1" for i in range(0, count, 3)])
     put("pl", ["UCLA pl 1.0"] + [f"{names[i]}\t{i % 4001}\t{i % rows * 12}\t: N" + (" /FIXED" if i < terminals else "")
@@ -105,6 +107,15 @@ def local_nets(core, numbers):
         yield [(f"o{member}", bits >> 21 + 3 * k) for k, member in enumerate(members)]
 
 
+def wide_nets():
+    """A clock of all cells, or buses of 500 of them."""
+    if end == "clock":
+        yield [(f"o{i}", 4) for i in range(count)]
+    elif end == "buses":
+        for k in range(count // 100):
+            yield [(f"o{(100 * k + 7919 * i) % count}", 4) for i in range(500)]
+
+
 def local():
     core, numbers = Core(), random.Random(seed)
     width, height = 4 * core.columns, 10 * core.rows
@@ -122,6 +133,7 @@ def local():
     for name, bottom, left, top, right in macros:
         beside = [(bottom, left - 1), (top, left), (bottom - 1, left), (bottom, right)]
         nets += [[(name, 4), (f"o{core.beside(r, c)}", 4)] for r, c in beside]
+    nets += wide_nets()
     lines = ["UCLA nets 1.0", f"NumNets : {len(nets)}", f"NumPins : {sum(map(len, nets))}"]
     for k, net in enumerate(nets):
         lines.append(f"NetDegree : {len(net)} n{k}")
@@ -156,7 +168,7 @@ def one_row():
 
 OFFSETS = [offset(bits) for bits in range(8)]
 put("aux", ["RowBasedPlacement : d.nodes d.nets d.wts d.pl d.scl"])
-if end == "local":
+if end in ("local", "clock", "buses"):
     local()
 elif end == "row":
     one_row()
