@@ -98,9 +98,9 @@ looked_by_view side near t old id id' v w seen seen' steps steps' steps'' n x mo
       same_start = ap (λ (z : View). z.start) stepped.view ∙ h.own.same_start;
     } in (
       looked_more side near t old (state_of id v) (state_of id' w) steps steps' steps'' n j x (slice_index seen j) moved b d h more refl there own (advances_loaded side id id' v w j x same there stepped) seen_there
-      (ap (λ (z : View). z.loads) stepped.view, ap (λ (z : View). z.fetches) stepped.view, ap (λ (z : View). z.moves) stepped.view)
-      (ap (λ (z : View). z.looked) stepped.view, ap (λ (z : View). z.renewed) stepped.view, ap (λ (z : View). z.parts) stepped.view, ap (λ (z : View). z.takes) stepped.view)
-      (ap (λ (z : View). z.idle) stepped.view) one stepped.found (ap (λ (l : List ℕ). slice_index l j) mine) differ,
+          (ap (λ (z : View). z.loads) stepped.view, ap (λ (z : View). z.fetches) stepped.view, ap (λ (z : View). z.moves) stepped.view)
+          (ap (λ (z : View). z.looked) stepped.view, ap (λ (z : View). z.renewed) stepped.view, ap (λ (z : View). z.parts) stepped.view, ap (λ (z : View). z.takes) stepped.view)
+          (ap (λ (z : View). z.idle) stepped.view) one stepped.found (ap (λ (l : List ℕ). slice_index l j) mine) differ,
       put ∙ (ap (λ (l : List ℕ). set l j x) mine ∙ sym seen_there),
     )
 
