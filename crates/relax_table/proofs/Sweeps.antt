@@ -7,6 +7,7 @@ use Rattle.std.proofs.lemmas.List.Sums.{sum_by_more}
 use Rattle.std.proofs.Math.Nat.{add-mul, mul-le-mul_right}
 use Rattle.std.proofs.lemmas.Bool.{cases_eq, cases_lt, false≢true}
 use lib.Seq.{set-get_or}
+use Rattle.atomic_table.specs.Seated.{TableId}
 use Rattle.relax_system.specs.declared.side.Side.{Side}
 use Rattle.relax_system.specs.declared.side.Side.TheVariants.{Floor, Ceil}
 use Rattle.relax_system.specs.declared.points.Near.{Near}
@@ -15,20 +16,19 @@ use Rattle.relax_system.specs.System.{point_at, no_point, IsValid}
 use Rattle.relax_system.specs.Sides.{Before, AllBefore, mean_of, distance}
 use Rattle.relax_system.specs.Means.{InBoxes}
 use Rattle.relax_system.proofs.SideMeans.{Before_refl}
+use Rattle.relax_table.specs.declared.rule.View.{View}
 use Rattle.relax_table.specs.Ways.{IsQuietVector, IsQuietIn}
 use Rattle.relax_table.specs.Step.{word_after}
-use Rattle.relax_table.specs.Step.Kind.{Renew}
+use Rattle.relax_table.specs.Step.Kind.{Load, Renew}
 use Rattle.relax_table.proofs.Vectors.{mean_of-set}
 use Rattle.relax_table.specs.Seats.{TableState, SeatState, IsSeatOf, IsSound, Advances, Continues, near_numbers, sweep_steps}
+use Rattle.relax_table.specs.Forms.Look.{WentOn, IsLooked}
+use Rattle.relax_table.specs.Forms.Rule.{state_of, Stepped}
 use Rattle.relax_table.specs.Forms.Sweep.{SweepsOnce}
 use Rattle.relax_system.proofs.Ways.{apart-positive}
 use Rattle.relax_system.proofs.Distances.{distance-add, distance_to_set}
-use Rattle.relax_table.proofs.Seated.{advances_on, advances_none, continues_on, continues_none}
+use Rattle.relax_table.proofs.Seated.{advances_on, advances_none, advances_loaded, continues_on, continues_none}
 use Rattle.relax_table.proofs.Ranges.{once_more}
-
--- whether a vector went on, or stayed as it was
-abbrev pub WentOn : Side → Bool → List ℕ → List ℕ → Type 0
-WentOn side moved u v = MatchBool moved (1 ≤ distance side u v) (v ≡ u)
 
 pub went_none : (side : Side) (u : List ℕ) → WentOn side false u u
 went_none side u = refl
@@ -46,21 +46,6 @@ went_set side u i x y false there before e h = rw (h, e) (set-get_or u i 0)
 -- a seat has one entry per point, before a call and after it
 pub seen_all : (side : Side) (old new : SeatState) → IsSound side old → Advances side old new → length old.seen ≡ length new.seen
 seen_all side old new sound h = let system : length new.system ≡ length old.system = ap (λ (p : List Point). length p) h.same_system in omega (arith, sound.in_boxes.all, h.sound.in_boxes.all)
-
--- what is known after the looks at the first n neighbours of a point
-pub record IsLooked (side : Side) (near : List Near) (t : TableState) (old new : SeatState) (first now n : ℕ) (moved : Bool) : Type 0 where
-  pub own : IsSeatOf t new
-  pub advances : Advances side old new
-  pub loads : new.loads ≡ old.loads + n
-  pub fetches : new.fetches ≡ old.fetches
-  pub moves : new.moves ≡ old.moves
-  pub looked : new.looked ≡ old.looked ++ take n (map (λ e. e.point) near)
-  pub rest : (new.renewed ≡ old.renewed) × (new.parts ≡ old.parts) × (new.takes ≡ old.takes)
-  pub idle : new.idle ≡ old.idle
-  pub others : (j : ℕ) → All (λ e. e.point ≢ j) near → slice_index new.seen j ≡ slice_index old.seen j
-  pub all : length old.seen ≡ length new.seen
-  pub went : WentOn side moved old.seen new.seen
-  pub steps : now ≡ first + n
 
 -- one more neighbour's number
 looks_more : (near : List Near) (n j : ℕ) (d : Near) → n < length near → j ≡ (slice_index_or near n d).point → take (n + 1) (map (λ (e : Near). e.point) near) ≡ take n (map (λ (e : Near). e.point) near) ++ j ∷ []
@@ -97,6 +82,27 @@ looked_more side near t old mid new steps steps' steps'' n j x y moved b d h mor
       went = went_both side old.seen mid.seen new.seen moved b h.all same h.advances.further advances.further h.went (rw seen (went_set side mid.seen j x y b there found e differ));
       steps = omega (arith, h.steps);
     }
+
+-- the same by the view of a seat and by what it has seen, each for itself
+pub looked_by_view : (side : Side) (near : List Near) (t : TableState) (old : SeatState) (id id' : TableId) (v w : View) (seen seen' : List ℕ) (steps steps' steps'' n x : ℕ) (moved b : Bool) (d : Near) → IsLooked side near t old (state_of id v) steps steps' n moved → n < length near
+    → All (λ e. e.point < length t.system) near → seen ≡ v.seen → id' ≡ id → Stepped side Load (slice_index_or near n d).point v x w → seen' ≡ set seen (slice_index_or near n d).point x → steps'' ≡ steps' + 1
+    → MatchBool b (x ≢ slice_index seen (slice_index_or near n d).point) (x ≡ slice_index seen (slice_index_or near n d).point) → IsLooked side near t old (state_of id' w) steps steps'' (n + 1) (moved || b) × (seen' ≡ w.seen)
+looked_by_view side near t old id id' v w seen seen' steps steps' steps'' n x moved b d h more points mine same stepped put one differ =
+    let j : ℕ = (slice_index_or near n d).point in
+    let system : length v.system ≡ length t.system = ap (λ (l : List Point). length l) h.own.same_system in
+    let there : j < length v.seen = omega (arith, h.advances.sound.in_boxes.all, points n d more) in
+    let seen_there : w.seen ≡ set v.seen j x = ap (λ (z : View). z.seen) stepped.view in
+    let own : IsSeatOf t (state_of id' w) = record {
+      same_table = same ∙ h.own.same_table;
+      same_system = ap (λ (z : View). z.system) stepped.view ∙ h.own.same_system;
+      same_start = ap (λ (z : View). z.start) stepped.view ∙ h.own.same_start;
+    } in (
+      looked_more side near t old (state_of id v) (state_of id' w) steps steps' steps'' n j x (slice_index seen j) moved b d h more refl there own (advances_loaded side id id' v w j x same there stepped) seen_there
+          (ap (λ (z : View). z.loads) stepped.view, ap (λ (z : View). z.fetches) stepped.view, ap (λ (z : View). z.moves) stepped.view)
+          (ap (λ (z : View). z.looked) stepped.view, ap (λ (z : View). z.renewed) stepped.view, ap (λ (z : View). z.parts) stepped.view, ap (λ (z : View). z.takes) stepped.view)
+          (ap (λ (z : View). z.idle) stepped.view) one stepped.found (ap (λ (l : List ℕ). slice_index l j) mine) differ,
+      put ∙ (ap (λ (l : List ℕ). set l j x) mine ∙ sym seen_there),
+    )
 
 -- a neighbour is a point
 pub near_there : (points : List Point) (i k : ℕ) (d : Near) → IsValid points → i < length points → k < length (point_at points i).near → (slice_index_or (point_at points i).near k d).point < length points

@@ -1,3 +1,4 @@
 pub mod Rule
 pub mod Sweep
 pub mod Chase
+pub mod Look

@@ -5,10 +5,11 @@ ghost use Rattle.relax_system.specs.Sides.{Before, mean_of, distance};
 ghost use Rattle.relax_system.specs.System.{point_at};
 ghost use Rattle.relax_table.specs.Step.{word_after, seen_after};
 ghost use Rattle.relax_table.specs.Step.Kind.{Load, Renew};
-ghost use Rattle.relax_table.specs.Seats.{IsSeatOf, Advances, IsNoNeighbour, near_numbers};
+ghost use Rattle.relax_table.specs.Seats.{IsSeatOf, IsSound, Advances, IsNoNeighbour, near_numbers};
 ghost use Rattle.relax_table.specs.Ways.{is_past, one_if};
-ghost use Rattle.std.specs.Prelude.{[], ◌∷◌, ◌++◌, false, ◌||◌};
-ghost use Rattle.relax_table.specs.Forms.Rule.{Stepped};
+ghost use Rattle.relax_table.specs.Forms.Look.{IsLooked};
+ghost use Rattle.relax_table.specs.Forms.Rule.{Stepped, state_of};
+ghost use Rattle.std.specs.Prelude.{[], ◌∷◌, ◌++◌, All, false, ◌||◌};
 
 use crate::direction::{Direction, further, mean, passes};
 use crate::rule::{Looks, Renews, View};
@@ -16,7 +17,7 @@ use crate::seat::{Renewal, SideSeat};
 use crate::steps::Steps;
 use crate::table::SideTable;
 use atomic_table::Seat;
-use relax_system::Side;
+use relax_system::{Near, Side};
 use std::sync::ledger::Ledger;
 
 /// What a relaxation did: its fetch, and whether it moved an entry of what the seat has seen.
@@ -92,12 +93,33 @@ impl<'a, D: Direction> SideTable<'a, D> {
         ensures steps { steps.new ≡ steps.old + length (point_at self.now.system i).near }
     {
         seat.know();
+        let near = self.system.point(i).near.as_slice();
+        self.look_each(&mut seat.seat, &mut seat.seen, near, steps)
+    }
+
+    /// Loads of the words of these neighbours, one after another. Whether an entry of what was seen moved. Over slices, so
+    /// that no turn takes their places anew.
+    #[inline(always)]
+    fn look_each<L: Ledger>(
+        &self,
+        seat: &mut Seat<u8, View>,
+        seen: &mut [u64],
+        near: &[Near],
+        steps: &mut Steps<L>,
+    ) -> bool
+        requires own { IsSeatOf self.now (state_of seat.old.table_id seat.old.me.0) }
+        requires held { (seat.old.me.1 ≡ []) × (seat.old.me.0.spent ≡ false) × (seen.old ≡ seat.old.me.0.seen) }
+        requires sound { IsSound D.side (state_of seat.old.table_id seat.old.me.0) }
+        requires there { All (λ n. n.point < length self.now.system) near.now }
+        ensures looked { IsLooked D.side near.now self.now (state_of seat.old.table_id seat.old.me.0) (state_of seat.new.table_id seat.new.me.0) steps.old steps.new (length near.now) result }
+        ensures held { (seat.new.me.1 ≡ []) × (seat.new.me.0.spent ≡ false) × (seen.new ≡ seat.new.me.0.seen) }
+    {
         let mut moved = false;
-        for entry in self.system.point(i).near.as_slice() {
+        for entry in near {
             let other = entry.point as usize;
-            let before = seat.seen[other];
-            let word = self.load(seat, other, steps);
-            moved = either(moved, differs(word, before));
+            let word = self.table.shared.load::<Looks<D>>(seat, other);
+            moved = either(moved, see(seen, other, word));
+            steps.tick();
         }
         moved
     }
@@ -146,6 +168,20 @@ impl<'a, D: Direction> SideTable<'a, D> {
             Side::Ceil => self.table.shared.fetch_min::<Renews<D>>(seat, i, mean),
         }
     }
+}
+
+/// Puts a word at its place. Whether it is another one than stood there: only then anything is written.
+#[inline(always)]
+fn see(seen: &mut [u64], i: usize, word: u64) -> bool
+    requires { i < length seen.old }
+    ensures seen { seen.new ≡ slice_set seen.old i word }
+    ensures moved { MatchBool result (word ≢ slice_index seen.old i) (word ≡ slice_index seen.old i) }
+{
+    let moved = differs(word, seen[i]);
+    if moved {
+        seen[i] = word;
+    }
+    moved
 }
 
 /// Whether one of the two holds.
