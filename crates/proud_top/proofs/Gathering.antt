@@ -128,7 +128,7 @@ load_stops kind name old now new word names m (Refused refusal) n h =
         });
         reads = h.3 ∙ n.below.read_faults;
       },
-      record { node = refl; point = refl },
+      record { node = refl; cell = refl; point = refl },
       file_of_source word names kind name n.named,
     ) where
       long : (o : Option (List FileEntry)) → old.files ≡ o → reads_design o word (Err (TooLong kind))
@@ -160,7 +160,7 @@ look_stops kind name text bytes old now new word names m (Refused refusal) same 
       untouched_more old now new n.below.untouched h.0.untouched,
       bad old.files refl,
       read_up_to old now new word names kind name bytes.items m n h.0 h.1 h.3,
-      record { node = refl; point = refl },
+      record { node = refl; cell = refl; point = refl },
       file_of_source word names kind name n.named,
     ) where
       bad : (o : Option (List FileEntry)) → old.files ≡ o → reads_design o word (Err (Text kind fault))

@@ -11,6 +11,7 @@ mod Sides
 mod Gathering
 mod Taking
 mod Naming
+mod Covering
 mod Points
 mod Saying
 mod Scheduling

@@ -127,7 +127,7 @@ weights_once one (Some text) None b h k = absurd h
 weights_once one (Some text) (Some a) None h k = absurd k
 weights_once one (Some text) (Some a) (Some b) h k = ap Some ((one.wts text).one_reading a b h k)
 
-records_once : OneAnswer → (texts : Texts) (x y : Records) → AreRecords texts x → AreRecords texts y → x ≡ y
+pub records_once : OneAnswer → (texts : Texts) (x y : Records) → AreRecords texts x → AreRecords texts y → x ≡ y
 records_once one texts x y h k =
     same_files x y
     ((one.nodes texts.nodes).one_reading x.nodes y.nodes h.nodes k.nodes)

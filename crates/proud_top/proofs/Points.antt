@@ -1,18 +1,19 @@
--- As many points as movable nodes: in the network of a design, and in the solutions of its systems, whose entries are coordinates.
-use Rattle.std.proofs.Common.{◌≡◌, ℕ, zero, suc, ◌+◌, ◌/◌, ◌<◌, ◌≤◌, Bool, true, false, cond, List, [], ◌∷◌, ◌++◌, length, map, refl, sym, ◌∙◌, ap, subst, arith, length-append, zero-add, add-one}
+-- The points of a network, with the movable nodes before the star points, and the solutions of its systems, whose entries are coordinates.
+use Rattle.std.proofs.Common.{◌≡◌, ℕ, zero, suc, ◌+◌, ◌-◌, ◌/◌, ◌<◌, ◌≤◌, Bool, true, false, not, cond, get_or, List, [], ◌∷◌, ◌++◌, length, map, refl, sym, ◌∙◌, ap, subst, arith, length-append, zero-add, add-one}
 use Rattle.std.specs.Prelude.{filter, pos, slice_index}
 use Rattle.std.specs.List.{range_with_len, count_by}
-use Rattle.std.proofs.lemmas.List.{length-map}
+use Rattle.std.proofs.lemmas.Bool.{lt-ltb, le-ltb}
+use Rattle.std.proofs.lemmas.List.{get_or_push, get_or_append_left}
 use Rattle.std.proofs.lemmas.List.FromFn.{filter_of_map_range_with_len_more, length-map-range_with_len, get_or-map-range_with_len}
 use Rattle.std.proofs.lemmas.List.Sums.{count_by_more_yes, count_by_more_no}
 use Rattle.std.proofs.Math.Seq.{take-length}
 use Rattle.book_files.specs.declared.orient.Orient.TheVariants.{N}
 use Rattle.book_design.specs.Values.{NodeValue, DesignValue}
-use Rattle.book_design.specs.Points.{is_movable, node_value_at, movable_before}
+use Rattle.book_design.specs.Points.{is_movable, node_value_at, movable_before, IsNodeOf}
 use Rattle.net_model.specs.Values.{NetworkValue}
-use Rattle.net_model.specs.declared.fault.NetFault.TheVariants.{Heavy}
-use Rattle.net_model.specs.Network.{IsNetwork, IsFirstFault, point_value}
-use Rattle.net_model.specs.Numbered.{point_nodes}
+use Rattle.net_model.specs.Network.{IsNetwork, point_count, point_value, network_of}
+use Rattle.net_model.specs.Numbered.{point_nodes, node_of}
+use Rattle.net_model.specs.Star.{star_nets}
 use Rattle.area_cut.specs.declared.axis.Axis.{Axis}
 use Rattle.area_cut.specs.declared.axis.Axis.TheVariants.{X, Y}
 use Rattle.area_cut.specs.declared.region.Region.{Region}
@@ -25,6 +26,8 @@ use Rattle.net_model.specs.Webs.{joints_of}
 use Rattle.relax_system.specs.declared.points.Point.{Point}
 use Rattle.relax_system.specs.declared.valid.TheConstants.{MOST_COORDINATE}
 use Rattle.relax_system.specs.System.{IsValid}
+use Rattle.proud_top.specs.Lines.{node_subject, net_subject}
+use Rattle.proud_top.specs.Named.{point_subject}
 use Rattle.proud_top.specs.Forms.Over.{IsOver, IsLastOver}
 
 -- what stands past the end
@@ -67,9 +70,9 @@ pub points_counted : (design : DesignValue) → length (point_nodes design) ≡ 
 points_counted design = count_movable design.nodes (length design.nodes) (omega arith) ∙ ap (count_by is_movable) (take-length design.nodes)
 
 -- and of its network
-network_counted : (design : DesignValue) (network : NetworkValue) → IsNetwork design network → length network.points ≡ count_by is_movable design.nodes
+network_counted : (design : DesignValue) (network : NetworkValue) → IsNetwork design network → length network.points ≡ point_count design
 network_counted design network h =
-    ap (λ (n : NetworkValue). length n.points) h.made ∙ length-map-range_with_len (point_value design) 0 (length (point_nodes design)) ∙ points_counted design
+    ap (λ (n : NetworkValue). length n.points) h.made ∙ length-map-range_with_len (point_value design) 0 (point_count design)
 
 -- a half of two that are at most so much is at most so much
 half_most : (a b m : ℕ) → a ≤ m → b ≤ m → (a + b) / 2 ≤ m
@@ -80,7 +83,7 @@ solve_over : (points : List Point) (solve : Solve) → IsValid points → IsSolv
 solve_over points solve valid h =
     let halves : ℕ → ℕ = λ i. (slice_index solve.lo i + slice_index solve.hi i) / 2 in
     record {
-      all = ap length h.mid ∙ length-map-range_with_len halves 0 (length solve.lo) ∙ h.lo.in_boxes.all;
+      all = omega (arith, ap length h.mid, length-map-range_with_len halves 0 (length solve.lo), h.lo.in_boxes.all);
       near = λ p there.
           let inside : p < length solve.lo = omega (arith, there, h.lo.in_boxes.all) in
           let mid : slice_index solve.mid p ≡ halves p = ap (λ (xs : List ℕ). slice_index xs p) h.mid ∙ get_or-map-range_with_len halves 0 (length solve.lo) p p 0 inside (zero-add p) in
@@ -132,18 +135,78 @@ last_over network count levels valid h =
           let P : ℕ → Type 0 = λ n. IsOver n (solve_on axis (level_at levels count)) in
           subst P points (solve_over (system_of axis network levels count) (solve_on axis (level_at levels count)) (valid axis) (solves_at axis network count levels h count (omega arith)))
 
--- and so over the movable nodes of the design
+-- and so over the movable nodes of the design, which are the first of them
+first_over : (few many : ℕ) (solve : Solve) → few ≤ many → IsOver many solve → IsOver few solve
+first_over few many solve less h = record { all = omega (arith, less, h.all); near = λ p there. h.near p (omega (arith, less, there)) }
+
 pub over_cells : (design : DesignValue) (network : NetworkValue) (count : ℕ) (levels : List Level) → IsNetwork design network → IsLastOver (length network.points) count levels
     → IsLastOver (count_by is_movable design.nodes) count levels
 over_cells design network count levels made h =
-    let P : ℕ → Type 0 = λ n. IsLastOver n count levels in
-    subst P (network_counted design network made) h
+    let less : count_by is_movable design.nodes ≤ length network.points = omega (arith, network_counted design network made, points_counted design) in
+    let last = level_at levels count in
+    record {
+      there = h.there;
+      last = record { x = first_over _ (length network.points) last.x less h.last.x; y = first_over _ (length network.points) last.y less h.last.y };
+    }
 
--- a point that is too heavy, and one from which no chain leads, are points of the design
-pub heavy_there : (design : DesignValue) (point : ℕ) → IsFirstFault design (Heavy point) → point < count_by is_movable design.nodes
-heavy_there design point h = rw points_counted at h.2.here.0
+-- a cell that no chain leads from is a movable node
+pub loose_there : (design : DesignValue) (network : NetworkValue) (point : ℕ) → IsNetwork design network → (IsFirstUnanchored (joints_of (network_of design)) point → point < length (point_nodes design))
+    → IsFirstUnanchored (joints_of network) point → point < count_by is_movable design.nodes
+loose_there design network point made law first =
+    let P : NetworkValue → Type 0 = λ n. IsFirstUnanchored (joints_of n) point in
+    omega (arith, law (subst P made.made first), points_counted design)
 
-pub loose_there : (design : DesignValue) (network : NetworkValue) (point : ℕ) → IsNetwork design network → IsFirstUnanchored (joints_of network) point → point < count_by is_movable design.nodes
-loose_there design network point made first =
-    let there = rw length-map at first.there in
-    rw (network_counted design network made) at there
+-- a movable node stands among the first n at its point
+record StandsAt (nodes : List NodeValue) (i n : ℕ) : Type 0 where
+  inside : movable_before nodes i < length (movable_up_to nodes n)
+  there : get_or (movable_up_to nodes n) (movable_before nodes i) 0 ≡ i
+
+stands_last : (nodes : List NodeValue) (i : ℕ) → i < length nodes → is_movable (node_value_at nodes i) ≡ true → StandsAt nodes i (i + 1)
+stands_last nodes i inside movable =
+    let before = count_movable nodes i (omega arith) in
+    let more = movable_more nodes i ∙ ap (λ b. movable_up_to nodes i ++ cond b (i ∷ []) []) movable in
+    record {
+      inside = omega (arith, ap length more, length-append (movable_up_to nodes i) (i ∷ []), before);
+      there = ap (λ xs. get_or xs (movable_before nodes i) 0) more ∙ get_or_push (movable_up_to nodes i) i 0 (movable_before nodes i) before;
+    }
+
+stands_behind : (nodes : List NodeValue) (i k : ℕ) → (i + 1) + k ≤ length nodes → is_movable (node_value_at nodes i) ≡ true → StandsAt nodes i ((i + 1) + k)
+stands_behind nodes i zero within movable =
+    let P : ℕ → Type 0 = λ n. StandsAt nodes i n in
+    let same : i + 1 ≡ (i + 1) + 0 = omega arith in
+    subst P same (stands_last nodes i (omega arith) movable)
+stands_behind nodes i (suc k) within movable =
+    let P : ℕ → Type 0 = λ n. StandsAt nodes i n in
+    let n = (i + 1) + k in
+    let same : n + 1 ≡ (i + 1) + suc k = omega arith in
+    let h = stands_behind nodes i k (omega arith) movable in
+    let new = cond (is_movable (node_value_at nodes n)) (n ∷ []) [] in
+    let more = movable_more nodes n in
+    subst P same (record {
+      inside = omega (arith, ap length more, length-append (movable_up_to nodes n) new, h.inside);
+      there = ap (λ xs. get_or xs (movable_before nodes i) 0) more ∙ get_or_append_left (movable_up_to nodes n) new 0 (movable_before nodes i) h.inside ∙ h.there;
+    })
+
+-- so the node of a cell is the point's
+pub node_is : (design : DesignValue) (point i : ℕ) → IsNodeOf design.nodes point i → node_of design point ≡ i
+node_is design point i h =
+    let rest : (i + 1) + (length design.nodes - (i + 1)) ≡ length design.nodes = let there = h.there in omega arith in
+    let P : ℕ → Type 0 = λ n. StandsAt design.nodes i n in
+    let stands = subst P rest (stands_behind design.nodes i (length design.nodes - (i + 1)) (omega (arith, rest)) h.movable) in
+    ap (node_of design) (sym h.number) ∙ stands.there
+
+-- the subject of a cell, and that of a star point
+pub cell_named : (design : DesignValue) (point cells i : ℕ) (subject : List ℕ) → cells ≡ count_by is_movable design.nodes → point < cells → IsNodeOf design.nodes point i → subject ≡ node_subject (node_value_at design.nodes i).name
+    → subject ≡ point_subject design point
+cell_named design point cells i subject whole less node is =
+    let inside : point < length (point_nodes design) = omega (arith, whole, less, points_counted design) in
+    let place : ℕ → List ℕ = λ b. node_subject (node_value_at design.nodes b).name in
+    is ∙ ap place (sym (node_is design point i node)) ∙ sym (ap (λ b. cond b (net_subject (slice_index (star_nets design) (point - length (point_nodes design)))) (place (node_of design point))) (ap not (lt-ltb point (length (point_nodes design)) inside)))
+
+pub star_named : (design : DesignValue) (point cells net : ℕ) (subject : List ℕ) → cells ≡ count_by is_movable design.nodes → cells ≤ point → net ≡ slice_index (star_nets design) (point - cells) → subject ≡ net_subject net
+    → subject ≡ point_subject design point
+star_named design point cells net subject whole past at is =
+    let counted : cells ≡ length (point_nodes design) = whole ∙ sym (points_counted design) in
+    let outside : length (point_nodes design) ≤ point = omega (arith, counted, past) in
+    is ∙ ap net_subject (at ∙ ap (λ k. slice_index (star_nets design) (point - k)) counted)
+    ∙ sym (ap (λ b. cond b (net_subject (slice_index (star_nets design) (point - length (point_nodes design)))) (node_subject (node_value_at design.nodes (node_of design point)).name)) (ap not (le-ltb point (length (point_nodes design)) outside)))

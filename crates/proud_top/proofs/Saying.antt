@@ -8,46 +8,33 @@ use Rattle.book_outer.specs.State.{FolderState, SinkState}
 use Rattle.book_files.specs.declared.records.FileKind.{FileKind}
 use Rattle.book_files.specs.declared.records.FileKind.TheVariants.{Scl, Schedule}
 use Rattle.book_files.specs.Entries.{WeightEntry}
-use Rattle.book_design.specs.declared.fault.DesignFault.{DesignFault}
-use Rattle.book_design.specs.declared.fault.DesignFault.TheVariants.{DuplicateName, UnknownName, NoPosition, NoRows, MixedRows, RowsOverlap, TallCell, Limit}
-use Rattle.book_design.specs.Faults.{IsFirstFault}
-use Rattle.book_design.specs.Answers.{IsJoined}
-use Rattle.net_model.specs.declared.fault.NetFault.{NetFault}
-use Rattle.net_model.specs.declared.fault.NetFault.TheVariants.{NetTooWide, TooManyEdges, Heavy}
-use Rattle.net_model.specs.Network.{IsFirstFault as IsFirstNetFault}
 use Rattle.book_design.specs.Records.{Records}
 use Rattle.book_design.specs.Values.{DesignValue}
 use Rattle.proud_top.specs.declared.status.Refusal.{Refusal}
-use Rattle.proud_top.specs.declared.status.Refusal.TheVariants.{Design, Net, Unanchored, NoRoom}
 use Rattle.proud_top.specs.declared.status.Status.{Status}
 use Rattle.proud_top.specs.declared.status.Status.TheVariants.{Done, Usage, Refused, ReadFault, WriteFault, Memory}
 use Rattle.proud_top.specs.declared.stop.Stop.{Stop}
 use Rattle.proud_top.specs.declared.stop.Stop.TheVariants as stop
 use Rattle.level_run.specs.declared.level.Level.{Level}
-use Rattle.level_run.specs.Levels.{level_at}
 use Rattle.row_space.specs.Values.{SegmentsValue}
 use Rattle.row_legal.specs.Cells.{CellsValue}
 use Rattle.proud_top.specs.declared.place.Placed.{Placed}
 use Rattle.proud_words.specs.Request.{RequestValue, SourceValue, of_design, of_grid, IsRequest}
 use Rattle.proud_top.specs.Texts.{Texts, AreWeights, AreRecords, AreShort}
 use Rattle.proud_top.specs.Accepted.{ReadsWeights, Accepts, IsLast}
-use Rattle.proud_top.specs.Wishes.{AreCells}
 use Rattle.proud_top.specs.Placement.{IsLegalText}
 use Rattle.proud_top.specs.Flow.{PlacedValue, ◌then◌, places, reads_design, reads, schedules, legalises, places_corners, places_levels, last_kind}
-use Rattle.proud_top.specs.Named.{node_of_fault, point_of_fault}
 use Rattle.proud_top.specs.Statuses.{status_of, Says, HasFile, HasFront, GotFront, HasReadUpTo, ReadsNothing, HasRead, HasReadAll, HasReadTo, IsCause, IsDue, IsDone, IsUsage, IsRefused, IsReadFault, IsWriteFault, IsUnwritten, not_made, not_put, not_reported, IsPutUpTo, none_put, file_put, report_put, cut_before, cut_in_line, cut_in_placement, IsMemory, IsPlaceable, AreReadsCalm, AreWritesCalm, ArePutsCalm, IsUntouched}
 use Rattle.proud_top.specs.Forms.Saying.{Puts, Delivers}
 use Rattle.proud_top.specs.Forms.Inputs.{HoldsWeights, HasTexts, places_texts}
 use Rattle.proud_top.specs.declared.source.Taken.{Taken}
 use Rattle.proud_top.specs.Forms.Sources.{IsRefusedBy, StopsTaking, AreTextsOf, Takes}
-use Rattle.proud_top.specs.Forms.Stops.{placed_value, Places, HasNode, HasPoint, Covers, CoversStop, IsLineOf, Refuses}
+use Rattle.proud_top.specs.Forms.Stops.{placed_value, Places, CoversStop, IsLineOf, Refuses}
 use Rattle.proud_top.proofs.Once.{OneAnswer}
 use Rattle.proud_top.proofs.OneEnd.{one_end, never_refused, never_behind}
 use Rattle.proud_top.proofs.Same.{OneRequest, same_flow}
 use Rattle.proud_top.proofs.Output.{nothing_read}
 use Rattle.proud_top.proofs.Naming.{named_among}
-use Rattle.proud_top.proofs.Points.{heavy_there, loose_there}
-use Rattle.proud_top.proofs.Wishing.{stuck_there}
 
 whole : (words : List (List ℕ)) (f f' : FolderState) (s s' : SinkState) (status : Status) (line : List ℕ) → IsDue status words f f' line → IsUntouched f f'
     → Appends s.written s'.written line → s'.faults ≡ s.faults → Says status words f f' s s'
@@ -195,56 +182,24 @@ flow_refused : (o : Option (List FileEntry)) (source : SourceValue) (schedule : 
 flow_refused o source schedule count refusal (inl read) = inl read
 flow_refused o source schedule count refusal (inr (records, read, scheduled)) = inr (records, read, inl scheduled)
 
--- a refusal behind the texts comes when all files were begun, and names nothing that isn't theirs
-fault_covered : (texts : Texts) (records : Records) (fault : DesignFault) → AreRecords texts records → IsFirstFault records fault → IfSome (node_of_fault fault) (HasNode texts)
-fault_covered texts records (NoPosition node) read first = record { records = records; read = read; there = first.holds.here.there }
-fault_covered texts records (TallCell node) read first = record { records = records; read = read; there = first.holds.here.there }
-fault_covered texts records (DuplicateName line) read first = tt
-fault_covered texts records (UnknownName file line) read first = tt
-fault_covered texts records NoRows read first = tt
-fault_covered texts records (MixedRows row) read first = tt
-fault_covered texts records (RowsOverlap row) read first = tt
-fault_covered texts records (Limit kind number) read first = tt
+-- a refusal behind the texts comes when all files were begun: behind the levels there may be no room
+last_cells : (count : ℕ) (refusal : Refusal) (design : DesignValue) (levels : List Level) (rows : SegmentsValue) (cells : CellsValue)
+    → (legalises rows cells then λ places. places_corners count design levels rows places) (Err refusal) → last_kind refusal ≡ Schedule
+last_cells count refusal design levels rows cells (inl (cell, sites, largest, e, stuck)) = ap last_kind e
+last_cells count refusal design levels rows cells (inr (places, is, rest)) = absurd (never_behind count design levels rows places refusal rest)
 
-net_covered : (texts : Texts) (records : Records) (design : DesignValue) (fault : NetFault) → AreRecords texts records → IsJoined records design → IsFirstNetFault design fault → IfSome (point_of_fault fault) (HasPoint texts)
-net_covered texts records design (Heavy point) read joined first = record { records = records; design = design; read = read; joined = joined; there = heavy_there design point first }
-net_covered texts records design (NetTooWide number) read joined first = tt
-net_covered texts records design (TooManyEdges number) read joined first = tt
+last_levels : (count : ℕ) (refusal : Refusal) (design : DesignValue) (levels : List Level) → places_levels count design levels (Err refusal) → last_kind refusal ≡ Schedule
+last_levels count refusal design levels (inl none) = absurd none
+last_levels count refusal design levels (inr (rows, same, inl none)) = absurd none
+last_levels count refusal design levels (inr (rows, same, inr (cells, are, rest))) = last_cells count refusal design levels rows cells rest
 
-record Late (texts : Texts) (refusal : Refusal) : Type 0 where
-  pub last : last_kind refusal ≡ Schedule
-  pub covered : Covers (Some texts) refusal
-
-late_as : (texts : Texts) (refusal other : Refusal) → refusal ≡ other → Late texts other → Late texts refusal
-late_as texts refusal other e h =
-    let P : Refusal → Type 0 = λ r. Late texts r in
-    subst P (sym e) h
-
--- behind the levels there may be no room
-late_cells : (count : ℕ) (texts : Texts) (refusal : Refusal) (records : Records) (design : DesignValue) (levels : List Level) (rows : SegmentsValue) (cells : CellsValue) → AreRecords texts records → IsJoined records design
-    → AreCells design (level_at levels count) cells → (legalises rows cells then λ places. places_corners count design levels rows places) (Err refusal) → Late texts refusal
-late_cells count texts refusal records design levels rows cells read joined are (inl (cell, sites, largest, e, stuck)) =
-    late_as texts refusal (NoRoom cell sites largest) e (record {
-      last = refl;
-      covered = (tt, record { records = records; design = design; read = read; joined = joined; there = stuck_there design (level_at levels count) rows cells cell sites largest are stuck });
-    })
-late_cells count texts refusal records design levels rows cells read joined are (inr (places, is, rest)) = absurd (never_behind count design levels rows places refusal rest)
-
-late_levels : (count : ℕ) (texts : Texts) (refusal : Refusal) (records : Records) (design : DesignValue) (levels : List Level) → AreRecords texts records → IsJoined records design
-    → places_levels count design levels (Err refusal) → Late texts refusal
-late_levels count texts refusal records design levels read joined (inl none) = absurd none
-late_levels count texts refusal records design levels read joined (inr (rows, same, inl none)) = absurd none
-late_levels count texts refusal records design levels read joined (inr (rows, same, inr (cells, are, rest))) = late_cells count texts refusal records design levels rows cells read joined are rest
-
-late : (count : ℕ) (texts : Texts) (refusal : Refusal) → places_texts count texts (Err refusal) → Late texts refusal
-late count texts refusal (inl none) = absurd none
-late count texts refusal (inr (records, read, inl (fault, e, first))) = late_as texts refusal (Design fault) e (record { last = refl; covered = (fault_covered texts records fault read first, tt) })
-late count texts refusal (inr (records, read, inr (design, joined, inl (fault, e, first)))) =
-    late_as texts refusal (Net fault) e (record { last = refl; covered = (tt, net_covered texts records design fault read joined first) })
-late count texts refusal (inr (records, read, inr (design, joined, inr (network, made, inl (point, e, first))))) =
-    late_as texts refusal (Unanchored point) e (record { last = refl; covered = (tt, record { records = records; design = design; read = read; joined = joined; there = loose_there design network point made first }) })
-late count texts refusal (inr (records, read, inr (design, joined, inr (network, made, inr (done, chains, inl none))))) = absurd none
-late count texts refusal (inr (records, read, inr (design, joined, inr (network, made, inr (done, chains, inr (levels, is, rest)))))) = late_levels count texts refusal records design levels read joined rest
+last_behind : (count : ℕ) (texts : Texts) (refusal : Refusal) → places_texts count texts (Err refusal) → last_kind refusal ≡ Schedule
+last_behind count texts refusal (inl none) = absurd none
+last_behind count texts refusal (inr (records, read, inl (fault, e, first))) = ap last_kind e
+last_behind count texts refusal (inr (records, read, inr (design, joined, inl (fault, e, first)))) = ap last_kind e
+last_behind count texts refusal (inr (records, read, inr (design, joined, inr (network, made, inl (point, e, first))))) = ap last_kind e
+last_behind count texts refusal (inr (records, read, inr (design, joined, inr (network, made, inr (done, chains, inl none))))) = absurd none
+last_behind count texts refusal (inr (records, read, inr (design, joined, inr (network, made, inr (done, chains, inr (levels, is, rest)))))) = last_levels count refusal design levels rest
 
 pub covered_take : (f f' : FolderState) (source : SourceValue) (schedule : Option (List ℕ)) (s : Stop) → StopsTaking f f' source schedule s → CoversStop None s
 covered_take f f' source schedule (stop.Refused refusal) h = h.3
@@ -252,7 +207,7 @@ covered_take f f' source schedule (stop.ReadFault kind) h = tt
 covered_take f f' source schedule stop.Memory h = tt
 
 pub covered_place : (count : ℕ) (texts : Texts) (s : Stop) → Places count texts (Err s) → CoversStop (Some texts) s
-covered_place count texts (stop.Refused refusal) h = (late count texts refusal h).covered
+covered_place count texts (stop.Refused refusal) h = h.1
 covered_place count texts (stop.ReadFault kind) h = tt
 covered_place count texts stop.Memory h = tt
 
@@ -262,7 +217,7 @@ pub due_take : (words : List (List ℕ)) (request : RequestValue) (f f' : Folder
 due_take words request f f' asked (stop.Refused refusal) h line is other = record {
   cause = record { request = request; asked = asked; flow = flow_refused f.files request.source request.schedule request.levels refusal h.1 };
   read = h.2;
-  name = is.0;
+  subject = is.0;
   named = named_among refusal is.0 (λ records none. absurd none) is.1;
   line = is.2;
 }
@@ -275,9 +230,9 @@ pub due_place : (words : List (List ℕ)) (request : RequestValue) (f f' : Folde
 due_place words request f f' taken asked g (stop.Refused refusal) h line is other =
     let R : FileKind → Type 0 = λ kind. HasReadTo kind request.source request.schedule f f' in
     record {
-      cause = record { request = request; asked = asked; flow = flow_texts f.files request.source request.schedule request.levels taken.inputs (Err refusal) g.1 g.2 h };
-      read = subst R (sym (late request.levels taken.inputs refusal h).last) g.3;
-      name = is.0;
+      cause = record { request = request; asked = asked; flow = flow_texts f.files request.source request.schedule request.levels taken.inputs (Err refusal) g.1 g.2 h.0 };
+      read = subst R (sym (last_behind request.levels taken.inputs refusal h.0)) g.3;
+      subject = is.0;
       named = named_among refusal is.0 (λ records read. source_reads f.files request.source taken.inputs records g.1 read) is.1;
       line = is.2;
     }

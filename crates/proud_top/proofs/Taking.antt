@@ -81,10 +81,10 @@ wrong_first : (texts : Texts) (kind : FileKind) (text : List ℕ) (refusal : Ref
     → StopsLooking texts (Refused refusal)
 wrong_first texts kind text refusal below there (inl (is, long)) =
     let S : Refusal → Type 0 = λ r. StopsLooking texts (Refused r) in
-    subst S (sym is) (record { text = text; there = there; before = below; long = long }, record { node = refl; point = refl }, text_of_source texts kind text there)
+    subst S (sym is) (record { text = text; there = there; before = below; long = long }, record { node = refl; cell = refl; point = refl }, text_of_source texts kind text there)
 wrong_first texts kind text refusal below there (inr (short, (fault, is, faulty))) =
     let S : Refusal → Type 0 = λ r. StopsLooking texts (Refused r) in
-    subst S (sym is) (record { text = text; there = there; before = below; short = short; faulty = faulty }, record { node = refl; point = refl }, text_of_source texts kind text there)
+    subst S (sym is) (record { text = text; there = there; before = below; short = short; faulty = faulty }, record { node = refl; cell = refl; point = refl }, text_of_source texts kind text there)
 
 pub look_stopped : (texts : Texts) (kind : FileKind) (text : List ℕ) (stop : Stop) → AreGoodBelow texts (rank kind) → text_of texts kind ≡ Some text → LooksAt kind text (Err stop) → StopsLooking texts stop
 look_stopped texts kind text (Refused refusal) below there k = wrong_first texts kind text refusal below there k

@@ -8,7 +8,7 @@ use Rattle.book_files.specs.declared.fault.TextKind.TheVariants.{BadHeader, BadL
 use Rattle.book_design.specs.declared.fault.DesignFault.{DesignFault}
 use Rattle.book_design.specs.declared.fault.DesignFault.TheVariants.{DuplicateName, UnknownName, NoPosition, NoRows, MixedRows, RowsOverlap, TallCell, Limit}
 use Rattle.net_model.specs.declared.fault.NetFault.{NetFault}
-use Rattle.net_model.specs.declared.fault.NetFault.TheVariants.{NetTooWide, TooManyEdges, Heavy}
+use Rattle.net_model.specs.declared.fault.NetFault.TheVariants.{TooManyEdges, Heavy}
 use Rattle.proud_top.specs.declared.status.Refusal.{Refusal}
 use Rattle.proud_top.specs.declared.status.Refusal.TheVariants.{TooLong, Text, Design, Net, Unanchored, NoRoom}
 
@@ -42,9 +42,16 @@ text_cause BadLine = codes "bad line"
 text_cause BadNumber = codes "bad number"
 text_cause (CountMismatch told found) = count_cause told found
 
--- what is wrong with a node or a row
-abbrev pub node_cause : List ℕ → List ℕ → List ℕ
-node_cause name wrong = codes "node " ++ name ++ codes ": " ++ wrong
+-- the subject of a line: a node by its name, or a net by its number in the file
+abbrev pub node_subject : List ℕ → List ℕ
+node_subject name = codes "node " ++ name
+
+abbrev pub net_subject : ℕ → List ℕ
+net_subject number = codes "net " ++ decimal number
+
+-- what is wrong with a subject or a row
+abbrev pub subject_cause : List ℕ → List ℕ → List ℕ
+subject_cause subject wrong = subject ++ codes ": " ++ wrong
 
 abbrev pub row_cause : ℕ → List ℕ → List ℕ
 row_cause row wrong = codes "row " ++ decimal row ++ codes ": " ++ wrong
@@ -57,29 +64,25 @@ line_place kind line = kind_text kind ++ codes ":" ++ decimal line ++ codes ": "
 abbrev pub limit_cause : ℕ → ℕ → List ℕ
 limit_cause kind number = codes "limit " ++ decimal kind ++ codes " " ++ decimal number
 
--- what is wrong with the files together; the name is that of the node that the fault names
+-- what is wrong with the files together; the subject is what the fault names
 abbrev pub design_cause : DesignFault → List ℕ → List ℕ
-design_cause (DuplicateName line) name = line_place Nodes line ++ codes "name given twice"
-design_cause (UnknownName file line) name = line_place file line ++ codes "unknown name"
-design_cause (NoPosition node) name = node_cause name (codes "no position")
-design_cause NoRows name = codes "no rows"
-design_cause (MixedRows row) name = row_cause row (codes "mixed rows")
-design_cause (RowsOverlap row) name = row_cause row (codes "overlaps")
-design_cause (TallCell node) name = node_cause name (codes "taller than a row")
-design_cause (Limit kind number) name = limit_cause kind number
+design_cause (DuplicateName line) subject = line_place Nodes line ++ codes "name given twice"
+design_cause (UnknownName file line) subject = line_place file line ++ codes "unknown name"
+design_cause (NoPosition node) subject = subject_cause subject (codes "no position")
+design_cause NoRows subject = codes "no rows"
+design_cause (MixedRows row) subject = row_cause row (codes "mixed rows")
+design_cause (RowsOverlap row) subject = row_cause row (codes "overlaps")
+design_cause (TallCell node) subject = subject_cause subject (codes "taller than a row")
+design_cause (Limit kind number) subject = limit_cause kind number
 
--- a net that has too many nodes, and nets that make too many pairs
-abbrev pub wide_cause : ℕ → List ℕ
-wide_cause number = codes "net " ++ decimal number ++ codes ": too wide"
-
+-- nets that make too many pair terms
 abbrev pub edges_cause : ℕ → List ℕ
 edges_cause number = codes "too many edges: " ++ decimal number
 
--- what is wrong with the nets; the name is that of the node that the fault names
+-- what is wrong with the nets; the subject is what the fault names
 abbrev pub net_cause : NetFault → List ℕ → List ℕ
-net_cause (NetTooWide number) name = wide_cause number
-net_cause (TooManyEdges number) name = edges_cause number
-net_cause (Heavy point) name = node_cause name (codes "too heavy")
+net_cause (TooManyEdges number) subject = edges_cause number
+net_cause (Heavy point) subject = subject_cause subject (codes "too heavy")
 
 -- what is wrong with the size of a file
 abbrev pub size_cause : FileKind → List ℕ → ℕ → List ℕ
@@ -87,16 +90,16 @@ size_cause kind wrong bytes = kind_text kind ++ codes ": " ++ wrong ++ codes " "
 
 -- a cell for which no segment has the room
 abbrev pub room_cause : List ℕ → ℕ → ℕ → List ℕ
-room_cause name sites largest = codes "node " ++ name ++ (codes ": no room for " ++ (decimal sites ++ (codes " sites, " ++ (decimal largest ++ codes " left"))))
+room_cause subject sites largest = subject ++ (codes ": no room for " ++ (decimal sites ++ (codes " sites, " ++ (decimal largest ++ codes " left"))))
 
 abbrev pub cause_text : Refusal → List ℕ → List ℕ
-cause_text (TooLong kind) name = size_cause kind (codes "longer than") MOST_BYTES
-cause_text (Text kind fault) name = line_place kind fault.line ++ text_cause fault.kind
-cause_text (Design fault) name = design_cause fault name
-cause_text (Net fault) name = net_cause fault name
-cause_text (Unanchored point) name = node_cause name (codes "reaches no pad")
-cause_text (NoRoom cell sites largest) name = room_cause name sites largest
+cause_text (TooLong kind) subject = size_cause kind (codes "longer than") MOST_BYTES
+cause_text (Text kind fault) subject = line_place kind fault.line ++ text_cause fault.kind
+cause_text (Design fault) subject = design_cause fault subject
+cause_text (Net fault) subject = net_cause fault subject
+cause_text (Unanchored point) subject = subject_cause subject (codes "reaches no pad")
+cause_text (NoRoom cell sites largest) subject = room_cause subject sites largest
 
--- the line of a refusal; the name is that of the node that it names
+-- the line of a refusal; the subject is what it names
 abbrev pub refusal_line : Refusal → List ℕ → List ℕ
-refusal_line refusal name = ended (codes "proud: " ++ cause_text refusal name)
+refusal_line refusal subject = ended (codes "proud: " ++ cause_text refusal subject)

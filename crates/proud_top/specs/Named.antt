@@ -1,5 +1,5 @@
--- The name of the node that a refusal names.
-use Rattle.std.specs.Prelude.{◌≡◌, ℕ, List, slice_get, Option, Some, None, IfSome}
+-- What a refusal names: a node or a cell by its name, or a point by its node's name or by its net.
+use Rattle.std.specs.Prelude.{◌≡◌, ℕ, ◌-◌, List, length, slice_get, slice_index, Option, Some, None, IfSome, if◌then◌else◌}
 use Rattle.book_files.specs.Entries.{NodeEntry}
 use Rattle.book_design.specs.declared.fault.DesignFault.{DesignFault}
 use Rattle.book_design.specs.declared.fault.DesignFault.TheVariants.{DuplicateName, UnknownName, NoPosition, NoRows, MixedRows, RowsOverlap, TallCell, Limit}
@@ -8,7 +8,11 @@ use Rattle.book_design.specs.Values.{DesignValue}
 use Rattle.book_design.specs.Answers.{IsJoined}
 use Rattle.book_design.specs.Points.{node_value_at, IsNodeOf}
 use Rattle.net_model.specs.declared.fault.NetFault.{NetFault}
-use Rattle.net_model.specs.declared.fault.NetFault.TheVariants.{NetTooWide, TooManyEdges, Heavy}
+use Rattle.net_model.specs.declared.fault.NetFault.TheVariants.{TooManyEdges, Heavy}
+use Rattle.net_model.specs.Network.{is_star}
+use Rattle.net_model.specs.Numbered.{node_at, point_nodes, node_of as node_of_point}
+use Rattle.net_model.specs.Star.{star_nets}
+use Rattle.proud_top.specs.Lines.{node_subject, net_subject}
 use Rattle.proud_top.specs.declared.status.Refusal.{Refusal}
 use Rattle.proud_top.specs.declared.status.Refusal.TheVariants.{TooLong, Text, Design, Net, Unanchored, NoRoom}
 
@@ -26,10 +30,9 @@ node_of_fault (Limit kind number) = None
 -- the point that a fault of the nets names
 abbrev pub point_of_fault : NetFault → Option ℕ
 point_of_fault (Heavy point) = Some point
-point_of_fault (NetTooWide number) = None
 point_of_fault (TooManyEdges number) = None
 
--- the node, or the point, that a refusal names
+-- the node, the cell, or the point, that a refusal names
 abbrev pub node_of : Refusal → Option ℕ
 node_of (Design fault) = node_of_fault fault
 node_of (Net fault) = None
@@ -38,33 +41,55 @@ node_of (NoRoom cell sites largest) = None
 node_of (TooLong kind) = None
 node_of (Text kind fault) = None
 
+abbrev pub cell_of : Refusal → Option ℕ
+cell_of (Unanchored point) = Some point
+cell_of (NoRoom cell sites largest) = Some cell
+cell_of (Design fault) = None
+cell_of (Net fault) = None
+cell_of (TooLong kind) = None
+cell_of (Text kind fault) = None
+
 abbrev pub point_of : Refusal → Option ℕ
 point_of (Net fault) = point_of_fault fault
-point_of (Unanchored point) = Some point
-point_of (NoRoom cell sites largest) = Some cell
 point_of (Design fault) = None
+point_of (Unanchored point) = None
+point_of (NoRoom cell sites largest) = None
 point_of (TooLong kind) = None
 point_of (Text kind fault) = None
 
--- among the records that are read, the node of the number has this name
-pub record IsNodeName (IsRead : Records → Type 0) (name : List ℕ) (number : ℕ) : Type 0 where
+-- among the records that are read, the subject is the node of the number
+pub record IsNodeSubject (IsRead : Records → Type 0) (subject : List ℕ) (number : ℕ) : Type 0 where
   pub records : Records
   pub node : NodeEntry
   pub read : IsRead records
   pub there : slice_get records.nodes number ≡ Some node
-  pub named : name ≡ node.name
+  pub named : subject ≡ node_subject node.name
 
--- in the design that the records make, the point is a node of this name
-pub record IsPointName (IsRead : Records → Type 0) (name : List ℕ) (point : ℕ) : Type 0 where
+-- in the design that the records make, the subject is the cell of the number: a movable node that so many movable ones stand before
+pub record IsCellSubject (IsRead : Records → Type 0) (subject : List ℕ) (cell : ℕ) : Type 0 where
   pub records : Records
   pub design : DesignValue
   pub number : ℕ
   pub read : IsRead records
   pub joined : IsJoined records design
-  pub node : IsNodeOf design.nodes point number
-  pub named : name ≡ (node_value_at design.nodes number).name
+  pub node : IsNodeOf design.nodes cell number
+  pub named : subject ≡ node_subject (node_value_at design.nodes number).name
 
--- where the refusal names a node or a point, this is the node's name
-pub record IsNameIn (IsRead : Records → Type 0) (refusal : Refusal) (name : List ℕ) : Type 0 where
-  pub node : IfSome (node_of refusal) (IsNodeName IsRead name)
-  pub point : IfSome (point_of refusal) (IsPointName IsRead name)
+-- a star point is named by its net, and any other point by the name of its node
+abbrev pub point_subject : DesignValue → ℕ → List ℕ
+point_subject design point = if is_star design point then net_subject (slice_index (star_nets design) (point - length (point_nodes design)))
+    else node_subject (node_at design (node_of_point design point)).name
+
+-- in the design that the records make, the subject is the point
+pub record IsPointSubject (IsRead : Records → Type 0) (subject : List ℕ) (point : ℕ) : Type 0 where
+  pub records : Records
+  pub design : DesignValue
+  pub read : IsRead records
+  pub joined : IsJoined records design
+  pub named : subject ≡ point_subject design point
+
+-- where the refusal names a node, a cell or a point, this is the subject that it is
+pub record IsSubjectIn (IsRead : Records → Type 0) (refusal : Refusal) (subject : List ℕ) : Type 0 where
+  pub node : IfSome (node_of refusal) (IsNodeSubject IsRead subject)
+  pub cell : IfSome (cell_of refusal) (IsCellSubject IsRead subject)
+  pub point : IfSome (point_of refusal) (IsPointSubject IsRead subject)

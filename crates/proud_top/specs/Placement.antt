@@ -15,11 +15,11 @@ use Rattle.wire_report.specs.Wire.{corner_at}
 abbrev pub corner_from : Spot → Corner
 corner_from spot = record { x = spot.x; y = spot.y }
 
--- the corner of a fixed node, and of a movable one the spot of its point
+-- the corner of a fixed node, and of a movable one the spot of its cell
 abbrev pub corner_of : List NodeValue → List Spot → ℕ → Corner
 corner_of nodes spots i = if (node_value_at nodes i).fixed then record { x = (node_value_at nodes i).x; y = (node_value_at nodes i).y } else corner_from (spot_at spots (movable_before nodes i))
 
--- the corner of each node, with the points at these spots
+-- the corner of each node, with the cells at these spots
 abbrev pub corners_of : DesignValue → List Spot → List Corner
 corners_of design spots = map (corner_of design.nodes spots) (range_with_len 0 (length design.nodes))
 

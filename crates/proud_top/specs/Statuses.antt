@@ -30,7 +30,7 @@ use Rattle.proud_top.specs.Accepted.{IsFaultAt, IsLast, HasBegun}
 use Rattle.proud_top.specs.Wishes.{AreCells}
 use Rattle.proud_top.specs.Placement.{IsLegalText}
 use Rattle.proud_top.specs.Flow.{PlacedValue, reads, schedules, places, last_kind}
-use Rattle.proud_top.specs.Named.{IsNameIn}
+use Rattle.proud_top.specs.Named.{IsSubjectIn}
 
 -- the status of a run that stopped before there was a placement
 abbrev pub status_of : Stop → Status
@@ -89,13 +89,13 @@ pub record IsCause (words : List (List ℕ)) (files : Option (List FileEntry)) (
   pub asked : IsRequest words request
   pub flow : places files request.source request.schedule request.levels (Err refusal)
 
--- and this is the line that says so, with the name of the node that the refusal names
+-- and this is the line that says so, with the subject that the refusal names
 pub record IsRefusal (words : List (List ℕ)) (old new : FolderState) (refusal : Refusal) (text : List ℕ) : Type 0 where
   pub cause : IsCause words old.files refusal
   pub read : HasReadTo (last_kind refusal) cause.request.source cause.request.schedule old new
-  pub name : List ℕ
-  pub named : IsNameIn (λ records. reads old.files cause.request.source (Ok records)) refusal name
-  pub line : text ≡ refusal_line refusal name
+  pub subject : List ℕ
+  pub named : IsSubjectIn (λ records. reads old.files cause.request.source (Ok records)) refusal subject
+  pub line : text ≡ refusal_line refusal subject
 
 -- the source is the design of this word, and the fault stands at its file of the kind
 pub record IsUnreadFile (kind : FileKind) (source : SourceValue) (old new : FolderState) : Type 0 where

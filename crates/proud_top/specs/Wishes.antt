@@ -21,12 +21,12 @@ wished_corner node x y = record { x = begin_of x node.width; y = begin_of y node
 abbrev pub wish_in : List Wish → ℕ → Wish
 wish_in wishes p = slice_index_or wishes p (record { x = pos 0; y = pos 0 })
 
--- each point's node wishes to have its middle at the point's mids of the level
+-- Each movable node wishes to have its middle at its point's mids of the level. The mids of star points stand behind these.
 pub record AreWishes (design : DesignValue) (level : Level) (wishes : List Wish) : Type 0 where
   pub all : length wishes ≡ count_by is_movable design.nodes
   pub each : (p i : ℕ) → IsNodeOf design.nodes p i → wish_in wishes p ≡ wished_corner (node_value_at design.nodes i) (slice_index level.x.mid p) (slice_index level.y.mid p)
 
--- the points as cells: the sites of each, and its wish
+-- the movable nodes as cells: the sites of each, and its wish
 pub record AreCells (design : DesignValue) (level : Level) (cells : CellsValue) : Type 0 where
   pub sites : AreSitesOf design cells.sites
   pub wishes : AreWishes design level cells.wishes

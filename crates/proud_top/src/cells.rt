@@ -20,7 +20,7 @@ use relax_system::MOST_COORDINATE;
 use row_legal::Wish;
 use std::alloc::Global;
 
-/// The points as cells.
+/// The movable nodes as cells.
 #[derive(Drop)]
 pub(crate) struct Cells {
     /// How many sites each takes.
@@ -29,7 +29,8 @@ pub(crate) struct Cells {
     pub(crate) wishes: Vec<Wish>,
 }
 
-/// The points of a design as cells, which wish to have their middles at the mids of the last level.
+/// The movable nodes of a design as cells, which wish to have their middles at the mids of the last level. Star points, which have
+/// the last mids, are no cells.
 pub(crate) fn point_cells(
     alloc: Global,
     design: &Design<'_>,
@@ -47,31 +48,31 @@ pub(crate) fn point_cells(
     Ok(Cells { sites, wishes })
 }
 
-/// How many sites each point takes.
+/// How many sites each cell takes.
 fn sites(alloc: Global, design: &Design<'_>) -> Result<Vec<u64>, Memory>
     ensures sites { IfOk result (λ sites. AreSitesOf design.now sites.items) }
     ensures valid { IsDesign design.now }
 {
     let mut sites = Vec::new(alloc);
-    for point in 0..point_count(design) {
+    for point in 0..cell_count(design) {
         sites.push(design.sites_of(point))?;
     }
     Ok(sites)
 }
 
-/// Where each point wishes its corner.
+/// Where each cell wishes its corner.
 fn wishes(alloc: Global, design: &Design<'_>, level: &Level) -> Result<Vec<Wish>, Memory>
     requires { IsBothOver (count_by is_movable design.now.nodes) level.now }
     ensures { IfOk result (λ wishes. AreWishes design.now level.now wishes.items) }
 {
     let mut wishes = Vec::new(alloc);
-    for point in 0..point_count(design) {
+    for point in 0..cell_count(design) {
         wishes.push(wish_of(design, level, point))?;
     }
     Ok(wishes)
 }
 
-/// Where a point wishes its corner.
+/// Where a cell wishes its corner.
 fn wish_of(design: &Design<'_>, level: &Level, point: u32) -> Wish
     requires over { IsBothOver (count_by is_movable design.now.nodes) level.now }
     requires there { point < count_by is_movable design.now.nodes }
@@ -83,8 +84,8 @@ fn wish_of(design: &Design<'_>, level: &Level, point: u32) -> Wish
     corner(&node, x, y)
 }
 
-/// How many points there are.
-fn point_count(design: &Design<'_>) -> u32
+/// How many cells there are.
+pub(crate) fn cell_count(design: &Design<'_>) -> u32
     ensures count { result ≡ count_by is_movable design.now.nodes }
     ensures valid { IsDesign design.now }
 {

@@ -19,7 +19,7 @@ use row_space::Segments;
 use std::alloc::Global;
 use wire_report::Corner;
 
-/// The corner of each node with the points at these places in the segments, and the fixed nodes where they are.
+/// The corner of each node with the cells at these places in the segments, and the fixed nodes where they are.
 pub(crate) fn corners(
     alloc: Global,
     design: &Design<'_>,
@@ -61,7 +61,7 @@ fn node_corners(
     Ok(corners)
 }
 
-/// The corner of a node, which has this number: of a point at its place, of a fixed node where it is.
+/// The corner of a node, which has this number: of a cell at its place, of a fixed node where it is.
 fn corner_of(
     design: &Design<'_>,
     node: &Node<'_>,

@@ -29,6 +29,7 @@ mod solver;
 mod source;
 mod status;
 mod stop;
+mod subject;
 mod top;
 
 pub use alike::one_placement;

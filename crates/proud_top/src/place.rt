@@ -11,7 +11,7 @@ use crate::solver::Solver;
 use crate::stop::Stop;
 use book_outer::Gate;
 use level_run::{MOST_LEVELS, gap};
-use net_model::network;
+use net_model::{network, unanchored_is_movable};
 use pad_reach::reach;
 use row_legal::legalise;
 use row_space::segments;
@@ -38,7 +38,9 @@ pub(crate) fn place<R: Threads + Sync, G: Gate>(
     requires { count ≤ MOST_LEVELS }
     ensures { Places count inputs.now result }
 {
+    unanchored_is_movable();
     let design = inputs.design(alloc)?;
+    let _points = design.points();
     let network = network(alloc, &design)?;
     let reach = reach(alloc, &network)?;
     let levels = solver.solve(alloc, &network, &reach, count)?;

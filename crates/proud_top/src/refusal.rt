@@ -1,10 +1,10 @@
-//! The line of a stop: what it says, and the name of the node that it names.
+//! The line of a stop: what it says, and the subject that it names.
 
 ghost use Rattle.std.specs.Prelude.{◌≡◌, ◌++◌, IfOk, IfSome, OnOk, option_map};
-ghost use Rattle.proud_top.specs.Lines.{kind_text, cannot_read_line, line_place, size_cause, count_cause, text_cause, node_cause, row_cause, limit_cause, design_cause, wide_cause, edges_cause, net_cause, room_cause, cause_text, refusal_line};
-ghost use Rattle.proud_top.specs.Named.{node_of, point_of, node_of_fault, point_of_fault, IsNameIn, IsNodeName, IsPointName};
+ghost use Rattle.proud_top.specs.Lines.{kind_text, cannot_read_line, line_place, size_cause, count_cause, text_cause, subject_cause, row_cause, limit_cause, design_cause, edges_cause, net_cause, room_cause, cause_text, refusal_line};
+ghost use Rattle.proud_top.specs.Named.{node_of, cell_of, point_of, node_of_fault, point_of_fault, IsSubjectIn, IsNodeSubject, IsPointSubject};
 ghost use Rattle.proud_top.specs.Texts.{AreRecords};
-ghost use Rattle.proud_top.specs.Forms.Stops.{AreRecordsOf, HasNode, HasPoint, Covers, CoversStop, IsLineOf};
+ghost use Rattle.proud_top.specs.Forms.Stops.{AreRecordsOf, HasNode, HasCell, HasPoint, Covers, CoversStop, IsLineOf};
 
 use crate::inputs::Inputs;
 use crate::status::Refusal;
@@ -15,8 +15,8 @@ use book_text::Memory;
 use net_model::NetFault;
 use std::alloc::Global;
 
-/// The line of a stop, and nothing for want of memory. Where the stop names a node or a point, it is one of the inputs', in
-/// which its name is looked up.
+/// The line of a stop, and nothing for want of memory. Where the stop names a node, a cell or a point, it is one of the inputs',
+/// in which its subject is looked up.
 pub(crate) fn fault_line(
     alloc: Global,
     stop: Stop,
@@ -28,57 +28,57 @@ pub(crate) fn fault_line(
     match stop {
         Stop::ReadFault(kind) => cannot_read_line(alloc, kind),
         Stop::Refused(refusal) => {
-            let name = name_in(alloc, refusal, inputs)?;
-            refusal_line(alloc, refusal, &name)
+            let subject = subject_in(alloc, refusal, inputs)?;
+            refusal_line(alloc, refusal, &subject)
         }
         Stop::Memory => Ok(Vec::new(alloc)),
     }
 }
 
-/// The name of the node that a refusal names, and else nothing.
-fn name_in(alloc: Global, refusal: Refusal, inputs: Option<&Inputs>) -> Result<Vec<u8>, Memory>
+/// The subject that a refusal names, and else nothing.
+fn subject_in(alloc: Global, refusal: Refusal, inputs: Option<&Inputs>) -> Result<Vec<u8>, Memory>
     requires { Covers (option_map (λ i. i.now) inputs) refusal }
-    ensures { IfOk result (λ name. IsNameIn (AreRecordsOf (option_map (λ i. i.now) inputs.entry)) refusal name.items) }
+    ensures { IfOk result (λ subject. IsSubjectIn (AreRecordsOf (option_map (λ i. i.now) inputs.entry)) refusal subject.items) }
 {
     match inputs {
-        Some(inputs) => name_among(alloc, refusal, inputs),
+        Some(inputs) => subject_among(alloc, refusal, inputs),
         None => Ok(Vec::new(alloc)),
     }
 }
 
-/// The name of the node of the inputs that a refusal names, and else nothing.
-fn name_among(alloc: Global, refusal: Refusal, inputs: &Inputs) -> Result<Vec<u8>, Memory>
+/// The subject of the inputs that a refusal names, and else nothing.
+fn subject_among(alloc: Global, refusal: Refusal, inputs: &Inputs) -> Result<Vec<u8>, Memory>
     requires node { IfSome (node_of refusal) (HasNode inputs.now) }
+    requires cell { IfSome (cell_of refusal) (HasCell inputs.now) }
     requires point { IfSome (point_of refusal) (HasPoint inputs.now) }
-    ensures { IfOk result (λ name. IsNameIn (AreRecords inputs.now) refusal name.items) }
+    ensures { IfOk result (λ subject. IsSubjectIn (AreRecords inputs.now) refusal subject.items) }
 {
     match refusal {
-        Refusal::Design(fault) => name_of_node(alloc, node_of_fault(fault), inputs),
-        Refusal::Net(fault) => name_of_point(alloc, point_of_fault(fault), inputs),
-        Refusal::Unanchored(point) => inputs.point_name(alloc, point),
-        Refusal::NoRoom { cell, .. } => inputs.point_name(alloc, cell),
+        Refusal::Design(fault) => subject_of_node(alloc, node_of_fault(fault), inputs),
+        Refusal::Net(fault) => subject_of_point(alloc, point_of_fault(fault), inputs),
+        Refusal::Unanchored(cell) | Refusal::NoRoom { cell, .. } => inputs.cell_subject(alloc, cell),
         Refusal::TooLong(_) | Refusal::Text(..) => Ok(Vec::new(alloc)),
     }
 }
 
-/// The name of the node of that number, where there is one.
-fn name_of_node(alloc: Global, node: Option<u32>, inputs: &Inputs) -> Result<Vec<u8>, Memory>
+/// The node of that number as a subject, where there is one.
+fn subject_of_node(alloc: Global, node: Option<u32>, inputs: &Inputs) -> Result<Vec<u8>, Memory>
     requires { IfSome node (HasNode inputs.now) }
-    ensures { IfOk result (λ name. IfSome node (IsNodeName (AreRecords inputs.now) name.items)) }
+    ensures { IfOk result (λ subject. IfSome node (IsNodeSubject (AreRecords inputs.now) subject.items)) }
 {
     match node {
-        Some(node) => inputs.node_name(alloc, node),
+        Some(node) => inputs.node_subject(alloc, node),
         None => Ok(Vec::new(alloc)),
     }
 }
 
-/// The name of the node that is the point, where there is one.
-fn name_of_point(alloc: Global, point: Option<u32>, inputs: &Inputs) -> Result<Vec<u8>, Memory>
+/// The point of that number as a subject, where there is one.
+fn subject_of_point(alloc: Global, point: Option<u32>, inputs: &Inputs) -> Result<Vec<u8>, Memory>
     requires { IfSome point (HasPoint inputs.now) }
-    ensures { IfOk result (λ name. IfSome point (IsPointName (AreRecords inputs.now) name.items)) }
+    ensures { IfOk result (λ subject. IfSome point (IsPointSubject (AreRecords inputs.now) subject.items)) }
 {
     match point {
-        Some(point) => inputs.point_name(alloc, point),
+        Some(point) => inputs.point_subject(alloc, point),
         None => Ok(Vec::new(alloc)),
     }
 }
@@ -104,7 +104,7 @@ fn point_of_fault(fault: NetFault) -> Option<u32>
 {
     match fault {
         NetFault::Heavy(point) => Some(point),
-        NetFault::NetTooWide(_) | NetFault::TooManyEdges(_) => None,
+        NetFault::TooManyEdges(_) => None,
     }
 }
 
@@ -118,12 +118,12 @@ fn cannot_read_line(alloc: Global, kind: FileKind) -> Result<Vec<u8>, Memory>
     Ok(line)
 }
 
-/// The line of a refusal. The name is that of the node that the refusal names.
-pub(crate) fn refusal_line(alloc: Global, refusal: Refusal, name: &[u8]) -> Result<Vec<u8>, Memory>
-    ensures { IfOk result (λ line. line.items ≡ refusal_line refusal name.now) }
+/// The line of a refusal. The subject is what the refusal names.
+pub(crate) fn refusal_line(alloc: Global, refusal: Refusal, subject: &[u8]) -> Result<Vec<u8>, Memory>
+    ensures { IfOk result (λ line. line.items ≡ refusal_line refusal subject.now) }
 {
     let mut line = Vec::from_slice(alloc, b"proud: ")?;
-    push_cause(alloc, &mut line, refusal, name)?;
+    push_cause(alloc, &mut line, refusal, subject)?;
     line.push(b'\n')?;
     Ok(line)
 }
@@ -133,9 +133,9 @@ fn push_cause(
     alloc: Global,
     line: &mut Vec<u8>,
     refusal: Refusal,
-    name: &[u8],
+    subject: &[u8],
 ) -> Result<(), Memory>
-    ensures { OnOk result (line.new.items ≡ line.old.items ++ cause_text refusal name.now) }
+    ensures { OnOk result (line.new.items ≡ line.old.items ++ cause_text refusal subject.now) }
 {
     match refusal {
         Refusal::TooLong(kind) => push_size(alloc, line, kind, "longer than", MOST_BYTES as u64),
@@ -143,10 +143,10 @@ fn push_cause(
             push_place(alloc, line, kind, fault.line)?;
             push_text_cause(alloc, line, fault.kind)
         }
-        Refusal::Design(fault) => push_design_cause(alloc, line, fault, name),
-        Refusal::Net(fault) => push_net_cause(alloc, line, fault, name),
-        Refusal::Unanchored(_) => push_node(line, name, "reaches no pad"),
-        Refusal::NoRoom { sites, largest, .. } => push_room(alloc, line, name, sites, largest),
+        Refusal::Design(fault) => push_design_cause(alloc, line, fault, subject),
+        Refusal::Net(fault) => push_net_cause(alloc, line, fault, subject),
+        Refusal::Unanchored(_) => push_subject(line, subject, "reaches no pad"),
+        Refusal::NoRoom { sites, largest, .. } => push_room(alloc, line, subject, sites, largest),
     }
 }
 
@@ -189,9 +189,9 @@ fn push_design_cause(
     alloc: Global,
     line: &mut Vec<u8>,
     fault: DesignFault,
-    name: &[u8],
+    subject: &[u8],
 ) -> Result<(), Memory>
-    ensures { OnOk result (line.new.items ≡ line.old.items ++ design_cause fault name.now) }
+    ensures { OnOk result (line.new.items ≡ line.old.items ++ design_cause fault subject.now) }
 {
     match fault {
         DesignFault::DuplicateName { line: number } => {
@@ -202,11 +202,11 @@ fn push_design_cause(
             push_place(alloc, line, file, number)?;
             push(line, "unknown name")
         }
-        DesignFault::NoPosition { .. } => push_node(line, name, "no position"),
+        DesignFault::NoPosition { .. } => push_subject(line, subject, "no position"),
         DesignFault::NoRows => push(line, "no rows"),
         DesignFault::MixedRows { row } => push_row(alloc, line, row, "mixed rows"),
         DesignFault::RowsOverlap { row } => push_row(alloc, line, row, "overlaps"),
-        DesignFault::TallCell { .. } => push_node(line, name, "taller than a row"),
+        DesignFault::TallCell { .. } => push_subject(line, subject, "taller than a row"),
         DesignFault::Limit { kind, number } => push_limit(alloc, line, kind, number),
     }
 }
@@ -216,14 +216,13 @@ fn push_net_cause(
     alloc: Global,
     line: &mut Vec<u8>,
     fault: NetFault,
-    name: &[u8],
+    subject: &[u8],
 ) -> Result<(), Memory>
-    ensures { OnOk result (line.new.items ≡ line.old.items ++ net_cause fault name.now) }
+    ensures { OnOk result (line.new.items ≡ line.old.items ++ net_cause fault subject.now) }
 {
     match fault {
-        NetFault::NetTooWide(number) => push_wide(alloc, line, number),
         NetFault::TooManyEdges(number) => push_edges(alloc, line, number),
-        NetFault::Heavy(_) => push_node(line, name, "too heavy"),
+        NetFault::Heavy(_) => push_subject(line, subject, "too heavy"),
     }
 }
 
@@ -235,14 +234,6 @@ fn push_limit(alloc: Global, line: &mut Vec<u8>, kind: u8, number: u64) -> Resul
     push(line, limit.as_str())
 }
 
-/// Appends the number of a net that is too wide.
-fn push_wide(alloc: Global, line: &mut Vec<u8>, number: u32) -> Result<(), Memory>
-    ensures { OnOk result (line.new.items ≡ line.old.items ++ wide_cause number) }
-{
-    let cause = format!(in alloc; "net {number}: too wide")?;
-    push(line, cause.as_str())
-}
-
 /// Appends how many pair terms there are.
 fn push_edges(alloc: Global, line: &mut Vec<u8>, number: u64) -> Result<(), Memory>
     ensures { OnOk result (line.new.items ≡ line.old.items ++ edges_cause number) }
@@ -251,18 +242,17 @@ fn push_edges(alloc: Global, line: &mut Vec<u8>, number: u64) -> Result<(), Memo
     push(line, cause.as_str())
 }
 
-/// Appends that there is no room for a node.
+/// Appends that there is no room for a cell.
 fn push_room(
     alloc: Global,
     line: &mut Vec<u8>,
-    name: &[u8],
+    subject: &[u8],
     sites: u64,
     largest: u64,
 ) -> Result<(), Memory>
-    ensures { OnOk result (line.new.items ≡ line.old.items ++ room_cause name.now sites largest) }
+    ensures { OnOk result (line.new.items ≡ line.old.items ++ room_cause subject.now sites largest) }
 {
-    push(line, "node ")?;
-    line.extend_from_slice(name)?;
+    line.extend_from_slice(subject)?;
     let wrong = format!(in alloc; ": no room for {sites} sites, {largest} left")?;
     push(line, wrong.as_str())
 }
@@ -283,12 +273,11 @@ fn push_row(alloc: Global, line: &mut Vec<u8>, row: u32, wrong: &str) -> Result<
     push(line, cause.as_str())
 }
 
-/// Appends what is wrong with a node.
-fn push_node(line: &mut Vec<u8>, name: &[u8], wrong: &str) -> Result<(), Memory>
-    ensures { OnOk result (line.new.items ≡ line.old.items ++ node_cause name.now wrong.now) }
+/// Appends what is wrong with a subject.
+fn push_subject(line: &mut Vec<u8>, subject: &[u8], wrong: &str) -> Result<(), Memory>
+    ensures { OnOk result (line.new.items ≡ line.old.items ++ subject_cause subject.now wrong.now) }
 {
-    push(line, "node ")?;
-    line.extend_from_slice(name)?;
+    line.extend_from_slice(subject)?;
     push(line, ": ")?;
     push(line, wrong)
 }

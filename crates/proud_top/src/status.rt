@@ -33,11 +33,11 @@ pub enum Refusal {
     Text(FileKind, TextFault),
     /// The first fault of the files together.
     Design(DesignFault),
-    /// The first fault of the nets.
+    /// The first fault of the nets: they have too many pair terms, or a node or a net's star is too heavy.
     Net(NetFault),
-    /// The first point from which no chain of nets leads to a pad.
+    /// The first cell from which no chain of nets leads to a pad, by the number of cells before it.
     Unanchored(u32),
-    /// The first point, in the order in which cells are taken, for which no segment has room: how many sites it takes, and
+    /// The first cell, in the order in which cells are taken, for which no segment has room: how many sites it takes, and
     /// the largest room left.
     NoRoom { cell: u32, sites: u64, largest: u64 },
 }

@@ -37,7 +37,7 @@ pub record AreWithin (points : ℕ) (rows : SegmentsValue) (places : List Place)
   pub all : length places ≡ points
   pub each : (p : ℕ) → p < points → IsWithin rows (place_at places p)
 
--- these are the places that the greedy rule gives the points in the segments of the design, whatever they wish
+-- these are the places that the greedy rule gives the cells in the segments of the design, whatever they wish
 pub record ArePlacedIn (design : DesignValue) (rows : SegmentsValue) (places : List Place) : Type 0 where
   pub cells : CellsValue
   pub spaced : rows ≡ segments_of design

@@ -1,5 +1,5 @@
--- Levels over so many points.
-use Rattle.std.specs.Prelude.{◌≡◌, ℕ, ◌<◌, ◌≤◌, List, length, slice_index}
+-- Levels over so many points, and perhaps over more behind them.
+use Rattle.std.specs.Prelude.{ℕ, ◌<◌, ◌≤◌, List, length, slice_index}
 use Rattle.relax_system.specs.declared.valid.TheConstants.{MOST_COORDINATE}
 use Rattle.level_run.specs.declared.level.Solve.{Solve}
 use Rattle.level_run.specs.declared.level.Level.{Level}
@@ -7,7 +7,7 @@ use Rattle.level_run.specs.Levels.{level_at}
 
 -- there is a mid for each of so many points, and each is a coordinate
 pub record IsOver (points : ℕ) (solve : Solve) : Type 0 where
-  pub all : length solve.mid ≡ points
+  pub all : points ≤ length solve.mid
   pub near : (p : ℕ) → p < points → slice_index solve.mid p ≤ MOST_COORDINATE
 
 -- both solves of the level are over so many points

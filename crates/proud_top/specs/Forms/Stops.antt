@@ -12,6 +12,7 @@ use Rattle.book_design.specs.declared.fault.JoinError.{JoinError}
 use Rattle.book_design.specs.declared.fault.JoinError.TheVariants as join_error
 use Rattle.net_model.specs.declared.fault.NetError.{NetError}
 use Rattle.net_model.specs.declared.fault.NetError.TheVariants as net_error
+use Rattle.net_model.specs.Network.{point_count}
 use Rattle.pad_reach.specs.declared.search.ReachError.{ReachError}
 use Rattle.pad_reach.specs.declared.search.ReachError.TheVariants as reach_error
 use Rattle.row_legal.specs.declared.fault.LegalError.{LegalError}
@@ -26,12 +27,12 @@ use Rattle.proud_top.specs.declared.status.Status.TheVariants as status
 use Rattle.proud_top.specs.declared.place.Placed.{Placed}
 use Rattle.proud_top.specs.declared.stop.Stop.{Stop}
 use Rattle.proud_top.specs.declared.stop.Stop.TheVariants.{ReadFault, Refused, Memory}
-use Rattle.proud_top.specs.Lines.{cannot_read_line, refusal_line}
+use Rattle.proud_top.specs.Lines.{node_subject, cannot_read_line, refusal_line}
 use Rattle.proud_top.specs.Accepted.{IsFaultAt}
 use Rattle.proud_top.specs.Placement.{IsLegalText}
 use Rattle.proud_top.specs.Texts.{Texts, AreRecords}
 use Rattle.proud_top.specs.Flow.{PlacedValue, reads_design, joins, last_kind}
-use Rattle.proud_top.specs.Named.{node_of, point_of, IsNameIn}
+use Rattle.proud_top.specs.Named.{node_of, cell_of, point_of, IsSubjectIn}
 use Rattle.proud_top.specs.Statuses.{status_of, HasReadUpTo, IsUntouched}
 use Rattle.proud_top.specs.Forms.Inputs.{HasTexts, places_texts}
 use Rattle.proud_top.specs.Forms.Saying.{Puts}
@@ -52,9 +53,10 @@ abbrev pub stop_of_legal : LegalError → Stop
 stop_of_legal (legal_error.NoRoom cell sites largest) = Refused (NoRoom cell sites largest)
 stop_of_legal legal_error.Memory = Memory
 
--- the refusal names no node
+-- the refusal names nothing
 pub record IsNameless (refusal : Refusal) : Type 0 where
   pub node : node_of refusal ≡ None
+  pub cell : cell_of refusal ≡ None
   pub point : point_of refusal ≡ None
 
 -- it stands at a file of a source, none of which is a schedule
@@ -82,13 +84,6 @@ Designs texts (Err Memory) = Unit {0}
 abbrev pub placed_value : Placed → PlacedValue
 placed_value placed = record { file = placed.file.items; report = placed.report.items }
 
--- What the flow from the texts on ends with, in which the cells stand legally; or the refusal that stops it.
-abbrev pub Places : ℕ → Texts → Result Placed Stop → Type 0
-Places count texts (Ok placed) = places_texts count texts (Ok (placed_value placed)) × IsLegalText (AreRecords texts) placed.file.items
-Places count texts (Err (Refused refusal)) = places_texts count texts (Err refusal)
-Places count texts (Err (ReadFault kind)) = ⊥
-Places count texts (Err Memory) = Unit {0}
-
 -- the records as which the texts read, where there are any
 abbrev pub AreRecordsOf : Option Texts → Records → Type 0
 AreRecordsOf None records = ⊥
@@ -100,37 +95,58 @@ pub record HasNode (texts : Texts) (number : ℕ) : Type 0 where
   pub read : AreRecords texts records
   pub there : number < length records.nodes
 
+-- in the design that the records make there is such a cell
+pub record HasCell (texts : Texts) (cell : ℕ) : Type 0 where
+  pub records : Records
+  pub design : DesignValue
+  pub read : AreRecords texts records
+  pub joined : IsJoined records design
+  pub there : cell < count_by is_movable design.nodes
+
 -- in the design that the records make there is such a point
 pub record HasPoint (texts : Texts) (point : ℕ) : Type 0 where
   pub records : Records
   pub design : DesignValue
   pub read : AreRecords texts records
   pub joined : IsJoined records design
-  pub there : point < count_by is_movable design.nodes
+  pub there : point < point_count design
 
--- the node of that number has this name
-abbrev pub IsNameAt : List NodeEntry → List ℕ → ℕ → Type 0
-IsNameAt nodes name number = (node : NodeEntry) × (slice_get nodes number ≡ Some node) × (name ≡ node.name)
+-- the subject is the node of that number
+abbrev pub IsSubjectAt : List NodeEntry → List ℕ → ℕ → Type 0
+IsSubjectAt nodes subject number = (node : NodeEntry) × (slice_get nodes number ≡ Some node) × (subject ≡ node_subject node.name)
 
--- the point among the nodes is one of this name
-pub record IsPointNamed (nodes : List NodeValue) (name : List ℕ) (point : ℕ) : Type 0 where
+-- the subject is the cell of that number among the nodes
+pub record IsCellNamed (nodes : List NodeValue) (subject : List ℕ) (cell : ℕ) : Type 0 where
   pub number : ℕ
-  pub node : IsNodeOf nodes point number
-  pub named : name ≡ (node_value_at nodes number).name
+  pub node : IsNodeOf nodes cell number
+  pub named : subject ≡ node_subject (node_value_at nodes number).name
 
--- each node and point that the refusal names is one of the texts'
+-- what the refusal names is one of the texts'
+pub record HasNamed (texts : Texts) (refusal : Refusal) : Type 0 where
+  pub node : IfSome (node_of refusal) (HasNode texts)
+  pub cell : IfSome (cell_of refusal) (HasCell texts)
+  pub point : IfSome (point_of refusal) (HasPoint texts)
+
 abbrev pub Covers : Option Texts → Refusal → Type 0
 Covers None refusal = IsNameless refusal
-Covers (Some texts) refusal = IfSome (node_of refusal) (HasNode texts) × IfSome (point_of refusal) (HasPoint texts)
+Covers (Some texts) refusal = HasNamed texts refusal
+
+-- What the flow from the texts on ends with, in which the cells stand legally; or the refusal that stops it, which names what is the
+-- texts'.
+abbrev pub Places : ℕ → Texts → Result Placed Stop → Type 0
+Places count texts (Ok placed) = places_texts count texts (Ok (placed_value placed)) × IsLegalText (AreRecords texts) placed.file.items
+Places count texts (Err (Refused refusal)) = places_texts count texts (Err refusal) × HasNamed texts refusal
+Places count texts (Err (ReadFault kind)) = ⊥
+Places count texts (Err Memory) = Unit {0}
 
 abbrev pub CoversStop : Option Texts → Stop → Type 0
 CoversStop texts (Refused refusal) = Covers texts refusal
 CoversStop texts (ReadFault kind) = Unit {0}
 CoversStop texts Memory = Unit {0}
 
--- the line of the stop, with the name of the node that it names
+-- the line of the stop, with the subject that it names
 abbrev pub IsLineOf : Option Texts → Stop → List ℕ → Type 0
-IsLineOf texts (Refused refusal) line = (name : List ℕ) × IsNameIn (AreRecordsOf texts) refusal name × (line ≡ refusal_line refusal name)
+IsLineOf texts (Refused refusal) line = (subject : List ℕ) × IsSubjectIn (AreRecordsOf texts) refusal subject × (line ≡ refusal_line refusal subject)
 IsLineOf texts (ReadFault kind) line = line ≡ cannot_read_line kind
 IsLineOf texts Memory line = line ≡ []
 

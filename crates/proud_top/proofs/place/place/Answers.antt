@@ -4,11 +4,13 @@ use Rattle.std.proofs.lemmas.List.{length-map}
 use Rattle.std.proofs.lemmas.Result.{err_from_is_err_and}
 use Rattle.book_design.specs.Values.{DesignValue}
 use Rattle.pad_reach.specs.Chain.{HasChain}
+use Rattle.pad_reach.specs.Reaches.{IsFirstUnanchored}
 use Rattle.pad_reach.specs.Refusal.{IsRefusal}
 use Rattle.pad_reach.specs.declared.search.ReachError.{ReachError}
 use Rattle.pad_reach.specs.declared.search.ReachError.TheVariants as reach_error
 use Rattle.net_model.specs.Values.{NetworkValue}
-use Rattle.net_model.specs.Network.{IsNetwork}
+use Rattle.net_model.specs.Network.{IsNetwork, network_of}
+use Rattle.net_model.specs.Numbered.{point_nodes}
 use Rattle.net_model.specs.Answers.{Answers as NetAnswers}
 use Rattle.net_model.specs.declared.fault.NetError.{NetError}
 use Rattle.net_model.specs.declared.fault.NetError.TheVariants as net_error
@@ -39,7 +41,9 @@ use Rattle.proud_top.specs.declared.stop.Stop.TheVariants.{ReadFault, Refused, M
 use Rattle.proud_top.specs.Texts.{Texts}
 use Rattle.proud_top.specs.Forms.Stops.{stop_of_net, stop_of_reach, stop_of_legal, Designs, Places}
 use Rattle.proud_top.proofs.Placing.{corner_each}
-use Rattle.proud_top.proofs.Points.{over_cells}
+use Rattle.proud_top.proofs.Covering.{design_covered, net_covered, loose_covered, roomless_covered}
+use Rattle.proud_top.proofs.Points.{over_cells, loose_there}
+use Rattle.proud_top.proofs.Wishing.{stuck_there}
 use Rattle.proud_top.proofs.place.place.Goals as goal
 
 -- the last level is over the cells
@@ -73,7 +77,7 @@ corners-requires-clause-placed g c = record {
 
 -- the join of the texts stopped the flow
 design_stops : (count : ℕ) (texts : Texts) (stop : Stop) → Designs texts (Err stop) → Places count texts (Err stop)
-design_stops count texts (Refused refusal) (records, read, none) = inr (records, read, inl none)
+design_stops count texts (Refused refusal) h = (inr (h.0, h.1, inl h.2), design_covered texts refusal h)
 design_stops count texts (ReadFault kind) h = h
 design_stops count texts Memory h = tt
 
@@ -86,7 +90,7 @@ returns-in_err-design g c =
 
 -- a fault of the nets did
 net_stops : (count : ℕ) (texts : Texts) (design : DesignValue) (error : NetError) → Designs texts (Ok design) → NetAnswers design (Err error) → Places count texts (Err (stop_of_net error))
-net_stops count texts design (net_error.Fault fault) h first = inr (h.0, h.1, inr (design, h.2, inl (fault, refl, first)))
+net_stops count texts design (net_error.Fault fault) h first = (inr (h.0, h.1, inr (design, h.2, inl (fault, refl, first))), net_covered texts design fault h first)
 net_stops count texts design net_error.Memory h first = tt
 
 pub returns-in_err-network : goal.returns-in_err-network
@@ -98,16 +102,18 @@ returns-in_err-network g c =
 
 -- the search for pads did
 reach_stops : (count : ℕ) (texts : Texts) (design : DesignValue) (network : NetworkValue) (error : ReachError) → Designs texts (Ok design) → IsNetwork design network
-    → IsRefusal (joints_of network) error → Places count texts (Err (stop_of_reach error))
-reach_stops count texts design network (reach_error.Unanchored point) h made first = inr (h.0, h.1, inr (design, h.2, inr (network, made, inl (point, refl, first))))
-reach_stops count texts design network reach_error.Memory h made first = tt
+    → ((point : ℕ) → IsFirstUnanchored (joints_of (network_of design)) point → point < length (point_nodes design)) → IsRefusal (joints_of network) error → Places count texts (Err (stop_of_reach error))
+reach_stops count texts design network (reach_error.Unanchored point) h made law first =
+    (inr (h.0, h.1, inr (design, h.2, inr (network, made, inl (point, refl, first)))), loose_covered texts design point h (loose_there design network point made (law point) first))
+reach_stops count texts design network reach_error.Memory h made law first = tt
 
 pub returns-in_err-reach : goal.returns-in_err-reach
 returns-in_err-reach g c =
     let error = c.in_err-reach.field-0.0 in
     let p = err_from_is_err_and c.from_residual-in_err-reach.result c.from_residual-in_err-reach.ensures.1 in
     let q : p.0 ≡ stop_of_reach error = p.2 in
-    rw (p.1, q) (reach_stops c.args.count _ c.in_ok-design.design c.in_ok-network.network error c.in_ok-design.ensures c.in_ok-network.ensures c.in_err-reach.ensures.steps)
+    rw (p.1, q) (reach_stops c.args.count _ c.in_ok-design.design c.in_ok-network.network error c.in_ok-design.ensures c.in_ok-network.ensures
+    (λ point. c.unanchored_is_movable.ensures c.in_ok-design.design point c.points-points.ensures.valid) c.in_err-reach.ensures.steps)
 
 chained : (network : NetworkValue) → ((p : ℕ) → p < length (joints_of network) → HasChain (joints_of network) p) → (p : ℕ) → p < length network.points → HasChain (joints_of network) p
 chained network h p there = h p (rw length-map there)
@@ -117,7 +123,10 @@ legal_stops : (count : ℕ) (texts : Texts) (design : DesignValue) (network : Ne
     → ((p : ℕ) → p < length network.points → HasChain (joints_of network) p) → AreSolved network count levels → rows ≡ segments_of design → AreCells design (level_at levels count) cells
     → IsRoomless rows cells error → Places count texts (Err (stop_of_legal error))
 legal_stops count texts design network levels rows cells (legal_error.NoRoom cell sites largest) h made chains solved spaced are stuck =
-    inr (h.0, h.1, inr (design, h.2, inr (network, made, inr (tt, chains, inr (levels, solved, inr (rows, spaced, inr (cells, are, inl (cell, sites, largest, refl, stuck))))))))
+    (
+      inr (h.0, h.1, inr (design, h.2, inr (network, made, inr (tt, chains, inr (levels, solved, inr (rows, spaced, inr (cells, are, inl (cell, sites, largest, refl, stuck)))))))),
+      roomless_covered texts design cell sites largest h (stuck_there design (level_at levels count) rows cells cell sites largest are stuck),
+    )
 legal_stops count texts design network levels rows cells legal_error.Memory h made chains solved spaced are stuck = tt
 
 pub returns-in_err-sites : goal.returns-in_err-sites
