@@ -9,4 +9,5 @@ pub returns-clause-others : goal.returns-clause-others
 returns-clause-others g c = λ j none.
     let near : c.as_slice-near.result.now ≡ (point_at c.args.self.now.system c.args.i).near =
     c.as_slice-near.ensures ∙ (ap (λ (p : Point). p.near) c.point.ensures.point ∙ ap (λ (t : TableState). (point_at t.system c.args.i).near) c.self.view_is) in
-    c.look_each.ensures.looked.others j (rw near none) ∙ ap (λ (s : SeatState). slice_index s.seen j) c.seat.view_is
+    let before : slice_index c.seat.inside.seat.me.0.seen j ≡ slice_index c.args.seat.now.seen j = ap (λ (s : SeatState). slice_index s.seen j) c.seat.view_is in
+    rw (← before) (c.look_each.ensures.looked.others j (rw near none))
