@@ -107,7 +107,10 @@ fn are_points(rt: &impl Abort, network: &Network, case: &Case) {
     if stars == 1 {
         let star = cells as u32;
         assert_eq!(rt; (network.net_of(star), network.area(star)), (0, 0));
-        assert_eq!(rt; (network.near(star).len(), network.pins(star).len()), (cells, usize::from(*pads)));
+        assert_eq!(rt;
+            (network.near(star).len(), network.pins(star).len()),
+            (cells, usize::from(*pads))
+        );
         assert!(rt; network.near(star).iter().all(|near| near.weight == *weight));
         assert!(rt; network.pins(star).iter().all(|pin| pin.weight == *weight));
         assert!(rt; network.near(0).iter().all(|near| near.point == star));
@@ -117,7 +120,10 @@ fn are_points(rt: &impl Abort, network: &Network, case: &Case) {
 
 /// Each point has these two entries.
 fn is_solved(rt: &impl Abort, solve: &Solve, points: usize, entries: (u64, u64)) {
-    assert_eq!(rt; (solve.lo.as_slice().len(), solve.hi.as_slice().len()), (points, points));
+    assert_eq!(rt;
+        (solve.lo.as_slice().len(), solve.hi.as_slice().len()),
+        (points, points)
+    );
     assert!(rt; solve.lo.as_slice().iter().all(|lo| *lo == entries.0));
     assert!(rt; solve.hi.as_slice().iter().all(|hi| *hi == entries.1));
 }
@@ -139,7 +145,10 @@ fn a_net_of_17_nodes_is_a_star(rt: HostRuntime) -> Result<(), Fail> {
         let network = made(&rt, rt.alloc(), &texts).expect(&rt, "a network");
         are_points(&rt, &network, case);
         let reach = reach(rt.alloc(), &network)?;
-        let options = Options { levels: 0, seats: 2 };
+        let options = Options {
+            levels: 0,
+            seats: 2,
+        };
         let levels = levels(&rt, rt.alloc(), &network, &reach, options, &OpenGate)?;
         assert_eq!(rt; (levels.as_slice().len(), gap(&levels)), (1, *widest));
         let level = &levels.as_slice()[0];

@@ -250,7 +250,13 @@ pub(crate) fn lines_of(
     after: &str,
     count: u32,
 ) -> Result<Vec<u8>, Memory> {
-    with_lines(alloc, Vec::from_slice(alloc, head.as_bytes())?, before, after, count)
+    with_lines(
+        alloc,
+        Vec::from_slice(alloc, head.as_bytes())?,
+        before,
+        after,
+        count,
+    )
 }
 
 /// A text with such lines behind it.
@@ -333,8 +339,10 @@ fn points_that_are_too_heavy_are_named(rt: HostRuntime) -> Result<(), Fail> {
 fn nets_with_too_many_edges_are_named(rt: HostRuntime) -> Result<(), Fail> {
     let alloc = rt.alloc();
     let net = lines_of(alloc, "NetDegree : 16\n", "c", " B", 16)?;
-    let mut net_text =
-        Vec::from_slice(alloc, b"UCLA nets 1.0\nNumNets : 139811\nNumPins : 2236976\n")?;
+    let mut net_text = Vec::from_slice(
+        alloc,
+        b"UCLA nets 1.0\nNumNets : 139811\nNumPins : 2236976\n",
+    )?;
     for _ in 0..139_811 {
         net_text.extend_from_slice(&net)?;
     }
