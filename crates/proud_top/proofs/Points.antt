@@ -195,18 +195,22 @@ node_is design point i h =
     let stands = subst P rest (stands_behind design.nodes i (length design.nodes - (i + 1)) (omega (arith, rest)) h.movable) in
     ap (node_of design) (sym h.number) ∙ stands.there
 
--- the subject of a cell, and that of a star point
-pub cell_named : (design : DesignValue) (point cells i : ℕ) (subject : List ℕ) → cells ≡ count_by is_movable design.nodes → point < cells → IsNodeOf design.nodes point i → subject ≡ node_subject (node_value_at design.nodes i).name
-    → subject ≡ point_subject design point
-cell_named design point cells i subject whole less node is =
+-- the subject of a point that is a cell, and of one that is a star point
+pub cell_named : (design : DesignValue) (point cells i : ℕ) → cells ≡ count_by is_movable design.nodes → point < cells → IsNodeOf design.nodes point i → node_subject (node_value_at design.nodes i).name ≡ point_subject design point
+cell_named design point cells i whole less node =
     let inside : point < length (point_nodes design) = omega (arith, whole, less, points_counted design) in
-    let place : ℕ → List ℕ = λ b. node_subject (node_value_at design.nodes b).name in
-    is ∙ ap place (sym (node_is design point i node)) ∙ sym (ap (λ b. cond b (net_subject (slice_index (star_nets design) (point - length (point_nodes design)))) (place (node_of design point))) (ap not (lt-ltb point (length (point_nodes design)) inside)))
+    let subject : ℕ → List ℕ = λ k. node_subject (node_value_at design.nodes k).name in
+    let star = net_subject (slice_index (star_nets design) (point - length (point_nodes design))) in
+    ap subject (sym (node_is design point i node)) ∙ sym (ap (λ b. cond (not b) star (subject (node_of design point))) (lt-ltb point (length (point_nodes design)) inside))
 
-pub star_named : (design : DesignValue) (point cells net : ℕ) (subject : List ℕ) → cells ≡ count_by is_movable design.nodes → cells ≤ point → net ≡ slice_index (star_nets design) (point - cells) → subject ≡ net_subject net
-    → subject ≡ point_subject design point
-star_named design point cells net subject whole past at is =
+pub star_named : (design : DesignValue) (point cells net : ℕ) → cells ≡ count_by is_movable design.nodes → cells ≤ point → net ≡ slice_index (star_nets design) (point - cells) → net_subject net ≡ point_subject design point
+star_named design point cells net whole past at =
     let counted : cells ≡ length (point_nodes design) = whole ∙ sym (points_counted design) in
     let outside : length (point_nodes design) ≤ point = omega (arith, counted, past) in
-    is ∙ ap net_subject (at ∙ ap (λ k. slice_index (star_nets design) (point - k)) counted)
-    ∙ sym (ap (λ b. cond b (net_subject (slice_index (star_nets design) (point - length (point_nodes design)))) (node_subject (node_value_at design.nodes (node_of design point)).name)) (ap not (le-ltb point (length (point_nodes design)) outside)))
+    let star = net_subject (slice_index (star_nets design) (point - length (point_nodes design))) in
+    let node = node_subject (node_value_at design.nodes (node_of design point)).name in
+    ap net_subject (at ∙ ap (λ k. slice_index (star_nets design) (point - k)) counted) ∙ sym (ap (λ b. cond (not b) star node) (le-ltb point (length (point_nodes design)) outside))
+
+-- there is such a star point
+pub star_there : (design : DesignValue) (point cells : ℕ) → cells ≡ count_by is_movable design.nodes → cells ≤ point → point < point_count design → point - cells < length (star_nets design)
+star_there design point cells whole past there = omega (arith, whole, past, there, points_counted design)

@@ -1,6 +1,6 @@
 //! The texts of a design.
 
-ghost use Rattle.std.specs.Prelude.{◌≡◌, ◌<◌, length, IfOk, IfSome, option_map};
+ghost use Rattle.std.specs.Prelude.{◌≡◌, ◌<◌, length, IfOk, IfSome, Ok, option_map};
 ghost use Rattle.std.specs.List.{count_by};
 ghost use Rattle.book_files.specs.declared.records.FileKind.TheVariants.{Wts};
 ghost use Rattle.book_files.specs.Entries.{node_entries};
@@ -50,6 +50,7 @@ impl Model for Inputs {
 impl Inputs {
     ghost use Rattle.proud_top.specs.Named.{IsNodeSubject, IsCellSubject, IsPointSubject};
     ghost use Rattle.proud_top.specs.Forms.Inputs.{AreSound};
+    ghost use Rattle.book_design.specs.Values.{DesignValue};
     ghost use Rattle.proud_top.specs.Forms.Stops.{Designs, HasNode, HasCell, HasPoint};
 
     /// Does nothing; its clause is what holds of the texts.
@@ -81,7 +82,8 @@ impl Inputs {
         match self.design(alloc) {
             Ok(design) => Ok(design),
             Err(Stop::Memory) => Err(Memory),
-            Err(Stop::Refused(_) | Stop::ReadFault(_)) => unreachable!(),
+            Err(Stop::Refused(_)) => unreachable!(),
+            Err(Stop::ReadFault(_)) => unreachable!(),
         }
     }
 
