@@ -56,7 +56,9 @@ fn subject_among(alloc: Global, refusal: Refusal, inputs: &Inputs) -> Result<Vec
     match refusal {
         Refusal::Design(fault) => subject_of_node(alloc, node_of_fault(fault), inputs),
         Refusal::Net(fault) => subject_of_point(alloc, point_of_fault(fault), inputs),
-        Refusal::Unanchored(cell) | Refusal::NoRoom { cell, .. } => inputs.cell_subject(alloc, cell),
+        Refusal::Unanchored(cell) | Refusal::NoRoom { cell, .. } => {
+            inputs.cell_subject(alloc, cell)
+        }
         Refusal::TooLong(_) | Refusal::Text(..) => Ok(Vec::new(alloc)),
     }
 }
@@ -119,7 +121,11 @@ fn cannot_read_line(alloc: Global, kind: FileKind) -> Result<Vec<u8>, Memory>
 }
 
 /// The line of a refusal. The subject is what the refusal names.
-pub(crate) fn refusal_line(alloc: Global, refusal: Refusal, subject: &[u8]) -> Result<Vec<u8>, Memory>
+pub(crate) fn refusal_line(
+    alloc: Global,
+    refusal: Refusal,
+    subject: &[u8],
+) -> Result<Vec<u8>, Memory>
     ensures { IfOk result (λ line. line.items ≡ refusal_line refusal subject.now) }
 {
     let mut line = Vec::from_slice(alloc, b"proud: ")?;

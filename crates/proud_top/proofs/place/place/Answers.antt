@@ -122,11 +122,10 @@ chained network h p there = h p (rw length-map there)
 legal_stops : (count : ℕ) (texts : Texts) (design : DesignValue) (network : NetworkValue) (levels : List Level) (rows : SegmentsValue) (cells : CellsValue) (error : LegalError) → Designs texts (Ok design) → IsNetwork design network
     → ((p : ℕ) → p < length network.points → HasChain (joints_of network) p) → AreSolved network count levels → rows ≡ segments_of design → AreCells design (level_at levels count) cells
     → IsRoomless rows cells error → Places count texts (Err (stop_of_legal error))
-legal_stops count texts design network levels rows cells (legal_error.NoRoom cell sites largest) h made chains solved spaced are stuck =
-    (
-      inr (h.0, h.1, inr (design, h.2, inr (network, made, inr (tt, chains, inr (levels, solved, inr (rows, spaced, inr (cells, are, inl (cell, sites, largest, refl, stuck)))))))),
-      roomless_covered texts design cell sites largest h (stuck_there design (level_at levels count) rows cells cell sites largest are stuck),
-    )
+legal_stops count texts design network levels rows cells (legal_error.NoRoom cell sites largest) h made chains solved spaced are stuck = (
+  inr (h.0, h.1, inr (design, h.2, inr (network, made, inr (tt, chains, inr (levels, solved, inr (rows, spaced, inr (cells, are, inl (cell, sites, largest, refl, stuck)))))))),
+  roomless_covered texts design cell sites largest h (stuck_there design (level_at levels count) rows cells cell sites largest are stuck),
+)
 legal_stops count texts design network levels rows cells legal_error.Memory h made chains solved spaced are stuck = tt
 
 pub returns-in_err-sites : goal.returns-in_err-sites
