@@ -1,5 +1,5 @@
 -- What a refusal behind the texts names is one of theirs.
-use Rattle.std.proofs.Common.{◌≡◌, ◌<◌, ℕ, List, length, sym, subst}
+use Rattle.std.proofs.Common.{◌<◌, ℕ, sym, subst}
 use Rattle.std.specs.Prelude.{Ok, Err, IfSome}
 use Rattle.std.specs.List.{count_by}
 use Rattle.book_design.specs.declared.fault.DesignFault.{DesignFault}
@@ -12,7 +12,7 @@ use Rattle.net_model.specs.declared.fault.NetFault.{NetFault}
 use Rattle.net_model.specs.declared.fault.NetFault.TheVariants.{TooManyEdges, Heavy}
 use Rattle.net_model.specs.Network.{IsFirstFault as IsFirstNetFault}
 use Rattle.proud_top.specs.declared.status.Refusal.{Refusal}
-use Rattle.proud_top.specs.declared.status.Refusal.TheVariants.{Design, Net, Unanchored, NoRoom}
+use Rattle.proud_top.specs.declared.status.Refusal.TheVariants.{Net, Unanchored, NoRoom}
 use Rattle.proud_top.specs.declared.stop.Stop.TheVariants.{Refused}
 use Rattle.proud_top.specs.Named.{node_of_fault, point_of_fault}
 use Rattle.proud_top.specs.Texts.{Texts, AreRecords}

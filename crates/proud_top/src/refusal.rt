@@ -56,9 +56,9 @@ fn subject_among(alloc: Global, refusal: Refusal, inputs: &Inputs) -> Result<Vec
     match refusal {
         Refusal::Design(fault) => subject_of_node(alloc, node_of_fault(fault), inputs),
         Refusal::Net(fault) => subject_of_point(alloc, point_of_fault(fault), inputs),
-        Refusal::Unanchored(cell) | Refusal::NoRoom { cell, .. } => inputs.cell_subject(
-            alloc, cell,
-        ),
+        Refusal::Unanchored(cell) | Refusal::NoRoom { cell, .. } => {
+            inputs.cell_subject(alloc, cell)
+        }
         Refusal::TooLong(_) | Refusal::Text(..) => Ok(Vec::new(alloc)),
     }
 }
