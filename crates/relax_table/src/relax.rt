@@ -118,8 +118,10 @@ impl<'a, D: Direction> SideTable<'a, D> {
         for entry in near {
             let other = entry.point as usize;
             let word = self.table.shared.load::<Looks<D>>(seat, other);
-            moved = either(moved, see(seen, other, word));
             steps.tick();
+            if see(seen, other, word) {
+                moved = true;
+            }
         }
         moved
     }
