@@ -9,7 +9,8 @@ The designs have cores from a millionth to some hundred thousand units wide, so 
 come to 0, and sums pass 64 bits; pads inside the core and far outside, cells of no width, nets with a node twice, and weights
 of 0. Rows have one or more subrows, some without sites, stand in any order, with gaps between them or in columns that are
 shifted against each other, so that wishes lie beside them all. Fixed blocks, some of them flat, cover sites in whole or in part,
-and touch others; now and then there is no room for all cells.
+and touch others; now and then there is no room for all cells. Some designs have more pads, and nets of 15 to 19 nodes, at times of
+fixed ones alone, so that cliques and stars stand side by side.
 """
 import argparse
 import collections
@@ -80,7 +81,8 @@ def random_design(rng):
     left, right = min(x for x, _, _ in wide), max(x + sites * pitch for x, _, sites in wide)
     bottom, top = min(y for _, y, _ in wide), max(y for _, y, _ in wide) + height
     cells = [f"c{i}" for i in range(rng.randint(0, 14))]
-    pads = [f"p{i}" for i in range(rng.randint(1, 4))]
+    has_wide = rng.random() < 0.4
+    pads = [f"p{i}" for i in range(rng.randint(1, 4) + has_wide * rng.randint(12, 20))]
     clear = rng.random() < 0.2
     blocks = [] if clear else [f"b{i}" for i in range(rng.randint(0, 3))]
     place = lambda low, side: max(-MOST, min(rng.randint(low - side, low + 2 * side), MOST))
@@ -89,6 +91,11 @@ def random_design(rng):
     places |= {block: rng.choice([on_site(), (rng.randint(left, right), rng.randint(bottom, top))]) for block in blocks}
     pins = [[rng.choice(cells[:i] + pads), cell] for i, cell in enumerate(cells)]
     pins += [rng.choices(cells + pads + blocks, k=rng.randint(1, 5)) for _ in range(rng.randint(0, 2 * len(cells)))]
+    for _ in range(has_wide * rng.randint(1, 3)):
+        # One of its nodes, or two, may stand in it twice.
+        nodes = rng.choice([cells + pads + blocks, cells + pads + blocks, pads + blocks])
+        some = rng.sample(nodes, min(len(nodes), rng.randint(15, 19)))
+        pins.append(some + rng.choices(some, k=rng.randint(0, 2)))
     rng.shuffle(pins)
     # A net of two nodes may be one of a chain, so it weighs something.
     scale, named = rng.choice([(1, 0.5), (20000, 1)])
@@ -96,7 +103,7 @@ def random_design(rng):
     offset = lambda: rng.choice(["", " B", f" I : {decimal(rng.randint(-unit, unit))} {decimal(rng.randint(-unit, unit))}"])
     widest = rng.choice([1, 2, 4])
     sizes = {cell: (rng.randint(0, widest * pitch), rng.randint(0, height)) for cell in cells}
-    sizes |= {pad: (0 if clear else rng.randint(0, pitch), rng.randint(0, height)) for pad in pads}
+    sizes |= {pad: (0 if clear or has_wide else rng.randint(0, pitch), rng.randint(0, height)) for pad in pads}
     sizes |= {block: (rng.choice([0, pitch, rng.randint(0, 4 * pitch)]), rng.choice([0, height, rng.randint(0, 2 * height)]))
               for block in blocks}
     # A fixed node is marked in `.nodes`, in `.pl`, or in both.

@@ -87,6 +87,8 @@ class Design:
 
 
 class Network:
+    """The points are the cells, and behind them a star point for each net of more than 16 nodes that weighs and moves."""
+
     def __init__(self, design):
         self.number = {name: number for number, name in enumerate(design.cells)}
         self.core = design.core
@@ -94,11 +96,25 @@ class Network:
         self.near = [{} for _ in design.cells]
         self.pins = [[] for _ in design.cells]
         for weight, pins in design.nets:
+            if len(pins) > 16:
+                self.add_star(design, 840 * weight * len(pins) // (len(pins) - 1), pins)
+                continue
             share = 840 * weight // (len(pins) - 1) if len(pins) > 1 else 0
             for one in pins:
                 for other in pins:
                     if share > 0 and one != other and one in self.number:
                         self.join(design, self.number[one], other, share, pins[other])
+
+    def add_star(self, design, spoke, pins):
+        if spoke > 0 and any(name in self.number for name in pins):
+            star = len(self.near)
+            self.areas.append(0)
+            self.near.append({})
+            self.pins.append([])
+            for name in pins:
+                self.join(design, star, name, spoke, pins[name])
+                if name in self.number:
+                    self.near[self.number[name]][star] = spoke
 
     def join(self, design, point, other, share, offset):
         if other in self.number:
@@ -235,7 +251,7 @@ def corners(design, network, solved):
     mids = [[(lower + upper) // 2 for lower, upper in zip(*pair)] for pair in solved]
     wishes = [tuple(mids[axis][point] - design.size[name][axis] // 2 for axis in (0, 1))
               for point, name in enumerate(design.cells)]
-    rows, sites, found = list(segments(design)), network.areas, {}
+    rows, sites, found = list(segments(design)), network.areas[:len(design.cells)], {}
     chosen = choices(rows, design.pitch, sites, wishes)
     for s, segment in enumerate(rows):
         row = sorted((cell for cell in chosen if chosen[cell] == s), key=lambda cell: (wishes[cell][0], cell))

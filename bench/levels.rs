@@ -47,7 +47,7 @@ pub fn fits_narrow(network: &Network, tops: [u64; 2]) -> bool {
 }
 
 fn solve_levels<S: Sum>(network: &Network, tops: [u64; 2], way: &Way) -> Placed {
-    let points = network.nodes.len();
+    let points = network.points();
     let mut regions = Regions::whole(points, tops);
     let mut last = solve_level::<S>(network, &regions, &[vec![0; points], vec![0; points]], way);
     let mut gap = gap_of(&last);

@@ -1,15 +1,18 @@
-//! The network of a design by hand in plain Rust: each net a clique, each point with its neighbours in flat arrays.
+//! The network of a design by hand in plain Rust: each net a clique, or a star where it is wide, each point with its neighbours in
+//! flat arrays.
 
 use crate::design::{Design, Net, Pin};
 
-const WIDEST: usize = 512;
+const MOST_CLIQUE: usize = 16;
 const MOST_TERMS: u64 = 1 << 24;
 const HEAVIEST: u64 = 1 << 40;
 
 pub enum Fault {
-    NetTooWide(usize),
     TooManyEdges(u64),
+    /// A cell.
     Heavy(usize),
+    /// The net of a star point.
+    HeavyNet(usize),
     Unanchored(usize),
 }
 
@@ -20,13 +23,16 @@ pub struct FixedPin {
     pub place: [u64; 2],
 }
 
-/// The points of a design. Those next to point i stand at `starts[i]..starts[i + 1]` of `numbers` and `weights`, in order, and
-/// its fixed pins at `pin_starts[i]..pin_starts[i + 1]` of `pins`.
+/// The points of a design: its cells, and behind them a star point for each wide net. Those next to point i stand at
+/// `starts[i]..starts[i + 1]` of `numbers` and `weights`, in order, and its fixed pins at `pin_starts[i]..pin_starts[i + 1]` of
+/// `pins`.
 #[derive(Default)]
 pub struct Network {
-    /// The node that each point is.
+    /// The node that each cell is.
     pub nodes: Vec<usize>,
-    /// How many sites each point takes.
+    /// The net of each star point.
+    pub stars: Vec<usize>,
+    /// How many sites each point takes; none for a star point.
     pub areas: Vec<u64>,
     pub starts: Vec<usize>,
     pub numbers: Vec<u32>,
@@ -36,10 +42,12 @@ pub struct Network {
     pub totals: Vec<u64>,
 }
 
-/// The first pin of each distinct node of a net, and the weight of each pair of them.
-struct Clique {
+/// The first pin of each distinct node of a net that joins them: each two of them, or each to the net's star point.
+struct Group {
     pins: Vec<Pin>,
-    share: u64,
+    /// What each pair weighs, or each spoke.
+    weight: u64,
+    star: Option<usize>,
 }
 
 const NO_POINT: u32 = u32::MAX;
@@ -54,11 +62,14 @@ pub fn network(design: &Design) -> Result<Network, Fault> {
             network.areas.push(sites_of(node.width, design.pitch));
         }
     }
-    let cliques = cliques_of(design)?;
-    network.join(design, &points, &cliques);
+    let groups = network.groups(design)?;
+    network.join(design, &points, &groups);
     network.add_up();
     match network.totals.iter().position(|total| *total > HEAVIEST) {
-        Some(point) => Err(Fault::Heavy(point)),
+        Some(point) => Err(match point.checked_sub(network.nodes.len()) {
+            Some(star) => Fault::HeavyNet(network.stars[star]),
+            None => Fault::Heavy(point),
+        }),
         None => Ok(network),
     }
 }
@@ -80,38 +91,6 @@ fn pairs(k: usize) -> u64 {
     (k * k.saturating_sub(1) / 2) as u64
 }
 
-/// The cliques of the nets, where none is too wide and they have few pairs.
-fn cliques_of(design: &Design) -> Result<Vec<Clique>, Fault> {
-    let mut last_net = vec![usize::MAX; design.nodes.len()];
-    let mut cliques = Vec::with_capacity(design.nets.len());
-    let mut terms = 0;
-    for (n, net) in design.nets.iter().enumerate() {
-        let pins = first_pins(net, n, &mut last_net);
-        let degree = pins.len();
-        if degree > WIDEST {
-            return Err(Fault::NetTooWide(n));
-        }
-        let share = if degree < 2 {
-            0
-        } else {
-            840 * net.weight / (degree as u64 - 1)
-        };
-        if share > 0 {
-            let fixed = pins
-                .iter()
-                .filter(|pin| design.nodes[pin.node as usize].fixed)
-                .count();
-            terms += pairs(degree) - pairs(fixed);
-            cliques.push(Clique { pins, share });
-        }
-    }
-    if terms > MOST_TERMS {
-        Err(Fault::TooManyEdges(terms))
-    } else {
-        Ok(cliques)
-    }
-}
-
 fn first_pins(net: &Net, number: usize, last_net: &mut [usize]) -> Vec<Pin> {
     let mut pins = Vec::with_capacity(net.pins.len());
     for pin in &net.pins {
@@ -124,9 +103,9 @@ fn first_pins(net: &Net, number: usize, last_net: &mut [usize]) -> Vec<Pin> {
     pins
 }
 
-/// The points of a clique.
-fn movable<'a>(clique: &'a Clique, points: &'a [u32]) -> impl Iterator<Item = usize> + 'a {
-    clique
+/// The cells of a group.
+fn movable<'a>(group: &'a Group, points: &'a [u32]) -> impl Iterator<Item = usize> + 'a {
+    group
         .pins
         .iter()
         .map(|pin| points[pin.node as usize])
@@ -148,46 +127,106 @@ fn place_of(design: &Design, pin: &Pin) -> [u64; 2] {
 }
 
 impl Network {
-    /// What the cliques give each point: its neighbours net by net, and its fixed pins.
-    fn join(&mut self, design: &Design, points: &[u32], cliques: &[Clique]) {
-        self.count(points, cliques);
+    pub fn points(&self) -> usize {
+        self.nodes.len() + self.stars.len()
+    }
+
+    /// What the nets join, where they have few pair terms, and a star point for each wide one.
+    fn groups(&mut self, design: &Design) -> Result<Vec<Group>, Fault> {
+        let mut last_net = vec![usize::MAX; design.nodes.len()];
+        let mut groups = Vec::with_capacity(design.nets.len());
+        let mut terms = 0;
+        for (n, net) in design.nets.iter().enumerate() {
+            let pins = first_pins(net, n, &mut last_net);
+            let degree = pins.len();
+            let is_fixed = |pin: &&Pin| design.nodes[pin.node as usize].fixed;
+            let fixed = pins.iter().filter(is_fixed).count();
+            if degree < 2 || net.weight == 0 || fixed == degree {
+                continue;
+            }
+            let many = degree as u64;
+            if degree > MOST_CLIQUE {
+                let star = Some(self.points());
+                self.stars.push(n);
+                self.areas.push(0);
+                terms += many;
+                let weight = 840 * net.weight * many / (many - 1);
+                groups.push(Group { pins, weight, star });
+            } else {
+                terms += pairs(degree) - pairs(fixed);
+                let (weight, star) = (840 * net.weight / (many - 1), None);
+                groups.push(Group { pins, weight, star });
+            }
+        }
+        if terms > MOST_TERMS {
+            Err(Fault::TooManyEdges(terms))
+        } else {
+            Ok(groups)
+        }
+    }
+
+    /// What the groups give each point: its neighbours net by net, and its fixed pins.
+    fn join(&mut self, design: &Design, points: &[u32], groups: &[Group]) {
+        self.count(points, groups);
         let (mut free, mut free_pins) = (self.starts.clone(), self.pin_starts.clone());
-        for clique in cliques {
-            let fixed: Vec<FixedPin> = clique
-                .pins
-                .iter()
-                .filter(|pin| points[pin.node as usize] == NO_POINT)
-                .map(|pin| FixedPin {
-                    weight: clique.share,
-                    place: place_of(design, pin),
-                })
-                .collect();
-            for point in movable(clique, points) {
+        let mut fixed = Vec::new();
+        for group in groups {
+            fixed.clear();
+            let pins = group.pins.iter();
+            let pins = pins.filter(|pin| points[pin.node as usize] == NO_POINT);
+            fixed.extend(pins.map(|pin| FixedPin {
+                weight: group.weight,
+                place: place_of(design, pin),
+            }));
+            let mut put = |network: &mut Self, point: usize, other: usize| {
+                let at = &mut free[point];
+                network.numbers[*at] = other as u32;
+                network.weights[*at] = group.weight;
+                *at += 1;
+            };
+            let mut pin = |network: &mut Self, point: usize| {
                 let pins = &mut free_pins[point];
-                self.pins[*pins..*pins + fixed.len()].copy_from_slice(&fixed);
+                network.pins[*pins..*pins + fixed.len()].copy_from_slice(&fixed);
                 *pins += fixed.len();
-                self.totals[point] += clique.share * fixed.len() as u64;
-                for other in movable(clique, points).filter(|other| *other != point) {
-                    let at = &mut free[point];
-                    self.numbers[*at] = other as u32;
-                    self.weights[*at] = clique.share;
-                    *at += 1;
+                network.totals[point] += group.weight * fixed.len() as u64;
+            };
+            if let Some(star) = group.star {
+                pin(self, star);
+                for point in movable(group, points) {
+                    put(self, star, point);
+                    put(self, point, star);
+                }
+                continue;
+            }
+            for point in movable(group, points) {
+                pin(self, point);
+                for other in movable(group, points).filter(|other| *other != point) {
+                    put(self, point, other);
                 }
             }
         }
     }
 
-    /// Room for what the cliques give each point.
-    fn count(&mut self, points: &[u32], cliques: &[Clique]) {
-        let count = self.nodes.len();
+    /// Room for what the groups give each point.
+    fn count(&mut self, points: &[u32], groups: &[Group]) {
+        let count = self.points();
         self.totals = vec![0; count];
         self.starts = vec![0; count + 1];
         self.pin_starts = vec![0; count + 1];
-        for clique in cliques {
-            let many = movable(clique, points).count();
-            for point in movable(clique, points) {
-                self.starts[point + 1] += many - 1;
-                self.pin_starts[point + 1] += clique.pins.len() - many;
+        for group in groups {
+            let many = movable(group, points).count();
+            let fixed = group.pins.len() - many;
+            if let Some(star) = group.star {
+                self.starts[star + 1] += many;
+                self.pin_starts[star + 1] += fixed;
+            }
+            for point in movable(group, points) {
+                if group.star.is_some() {
+                    self.starts[point + 1] += 1;
+                } else {
+                    self.starts[point + 1] += many - 1;
+                    self.pin_starts[point + 1] += fixed;
+                }
             }
         }
         for point in 0..count {
@@ -203,7 +242,7 @@ impl Network {
     fn add_up(&mut self) {
         let mut row = Vec::new();
         let mut end = 0;
-        for point in 0..self.nodes.len() {
+        for point in 0..self.points() {
             let part = self.starts[point]..self.starts[point + 1];
             row.clear();
             row.extend(part.map(|k| (self.numbers[k], self.weights[k])));

@@ -68,7 +68,8 @@ fn places_of(
     let segments = segments(design);
     let mids = [0, 1].map(|axis| halfway(&placed.last[axis]));
     let wishes = wishes(design, network, &mids);
-    let places = legalise(&segments, design.pitch, &network.areas, &wishes)?;
+    let cells = &network.areas[..wishes.len()];
+    let places = legalise(&segments, design.pitch, cells, &wishes)?;
     Ok((segments, places))
 }
 
@@ -79,9 +80,9 @@ fn name_of(design: &Design, point: usize) -> String {
 
 fn refusal_of(design: &Design, fault: Fault) -> String {
     match fault {
-        Fault::NetTooWide(net) => format!("proud: net {net}: too wide"),
         Fault::TooManyEdges(terms) => format!("proud: too many edges: {terms}"),
         Fault::Heavy(point) => format!("proud: node {}: too heavy", name_of(design, point)),
+        Fault::HeavyNet(net) => format!("proud: net {net}: too heavy"),
         Fault::Unanchored(point) => {
             format!("proud: node {}: reaches no pad", name_of(design, point))
         }

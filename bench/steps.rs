@@ -71,7 +71,7 @@ pub fn run(
     if timed("reach", || reach(&network)).is_err() {
         return failed("a cell reaches no pad");
     }
-    tell("reach", network.nodes.len(), []);
+    tell("reach", network.points(), []);
     levels(&design, &network, cuts, schedule);
     rows(&design, &network, times)
 }
@@ -141,28 +141,30 @@ fn tell_design(design: &Design) {
 }
 
 fn tell_network(network: &Network) {
-    let points = 0..network.nodes.len();
+    let points = 0..network.points();
     let told = points.flat_map(|point| {
         let near = network.starts[point]..network.starts[point + 1];
         let near = near.flat_map(|k| [u64::from(network.numbers[k]), network.weights[k]]);
         let pins = network.pin_starts[point]..network.pin_starts[point + 1];
         near.chain(pins.map(|k| network.pins[k].weight))
     });
-    tell("network", network.nodes.len(), told);
+    tell("network", network.points(), told);
 }
 
-/// Where the placement file has the cells' middles, from the core's lower ends and clamped to the core.
-fn mids(design: &Design) -> [Vec<u64>; 2] {
-    let [(left, right), (bottom, top)] = design.core;
+/// Where the placement file has the cells' middles, from the core's lower ends and clamped to the core. Star points stand in the
+/// core's middle.
+fn mids(design: &Design, stars: usize) -> [Vec<u64>; 2] {
     let cells = || design.nodes.iter().filter(|node| !node.fixed);
-    let at = |at: i64, low: i64, high: i64| (at.min(high).max(low) - low) as u64;
+    let with_stars = |axis: usize, middles: &mut dyn Iterator<Item = i64>| {
+        let (low, high) = design.core[axis];
+        let middles = middles.map(|at| (at.min(high).max(low) - low) as u64);
+        let mut mids: Vec<u64> = middles.collect();
+        mids.resize(mids.len() + stars, (high - low) as u64 / 2);
+        mids
+    };
     [
-        cells()
-            .map(|node| at(node.x + node.width / 2, left, right))
-            .collect(),
-        cells()
-            .map(|node| at(node.y + node.height / 2, bottom, top))
-            .collect(),
+        with_stars(0, &mut cells().map(|node| node.x + node.width / 2)),
+        with_stars(1, &mut cells().map(|node| node.y + node.height / 2)),
     ]
 }
 
@@ -172,9 +174,9 @@ fn lows(design: &Design) -> [u64; 2] {
 }
 
 fn levels(design: &Design, network: &Network, cuts: u32, schedule: Schedule) {
-    let (mids, tops) = (mids(design), tops(design));
+    let (mids, tops) = (mids(design, network.stars.len()), tops(design));
     let regions = timed("cuts", || {
-        let whole = Regions::whole(network.nodes.len(), tops);
+        let whole = Regions::whole(network.points(), tops);
         (0..cuts).fold(whole, |regions, _| regions.cut(&network.areas, &mids))
     });
     tell_regions("cuts", &regions, lows(design));
@@ -208,13 +210,13 @@ fn settle<S: Sum>(
     let lows = lows(design);
     let projection = timed("project", || project::<S>(network, regions, mids));
     let told = [0, 1].into_iter().flat_map(|axis| {
-        let points = 0..network.nodes.len();
+        let points = 0..network.points();
         points.flat_map({
             let projection = &projection;
             move |point| told_point(network, projection, axis, point, lows[axis])
         })
     });
-    tell("project", network.nodes.len(), told);
+    tell("project", network.points(), told);
     let system = System {
         totals: &network.totals,
         projection: &projection,
@@ -279,8 +281,9 @@ fn rows(design: &Design, network: &Network, times: u32) -> ExitCode {
     let told =
         told.flat_map(|segment| [size(segment.x), size(segment.y), u64::from(segment.sites)]);
     tell("segments", segments.len(), told);
+    let cells = &network.areas[..wishes.len()];
     let places = timed("legalise", || {
-        legalise(&segments, design.pitch, &network.areas, &wishes)
+        legalise(&segments, design.pitch, cells, &wishes)
     });
     let Ok(places) = places else {
         return failed("there is no room for a cell");
