@@ -1,5 +1,6 @@
 #!/usr/bin/env python3
-"""Writes the files of two examples beside this script: an adder in `ripple_adder`, and registers on a bus in `bus`."""
+"""Writes the files of three examples beside this script: an adder in `ripple_adder`, registers on a bus in `bus`, and a shift
+register with its clock in `wide_net`."""
 import os
 
 ROW_HEIGHT = 12
@@ -108,5 +109,20 @@ def bus(bits=8):
     return wires
 
 
+def shift_register(bits=20):
+    """Registers in a chain from one pad to another, and a clock at all of them: the one net of more than 16 nodes."""
+    chain = Design("wide_net", rows=4, sites=64)
+    for k in range(bits):
+        chain.cells[f"reg[{k}]"] = 9
+    chain.pad("in", -6, chain.top() // 2 - 1)
+    chain.pad("out", chain.sites + 4, chain.top() // 2 - 1)
+    chain.pad("clock", 15, chain.top() + 4)
+    for k in range(bits + 1):
+        chain.net(f"q[{k}]", [f"reg[{k - 1}]" if k > 0 else "in"], [f"reg[{k}]" if k < bits else "out"])
+    chain.net("clock", ["clock"], [f"reg[{k}]" for k in range(bits)])
+    return chain
+
+
 ripple_adder().write()
 bus().write()
+shift_register().write()
