@@ -1,5 +1,6 @@
 #!/usr/bin/env python3
-"""Writes a design of so many nodes or cells: write_design.py FOLDER COUNT END [SEED]; the design is FOLDER/d.aux.
+"""Writes a design of so many nodes or cells: write_design.py FOLDER COUNT END [SEED] [--clock K] [--buses N,K]; the design is
+FOLDER/d.aux.
 
 END `local` gives a design to be placed, of COUNT cells (up to 1,000,000) whose nets are local, as those of a placed netlist are. A
 core about as wide as high has places 4 wide and 10 high, but for four fixed macros; COUNT of the places have a cell each, 1 to 4
@@ -12,14 +13,33 @@ weight of 1 to 4. SEED, by default 1, is where the numbers without a pattern beg
 END `row` gives a design of COUNT subrows, 8 sites each, side by side in one row, under a fiftieth as many fixed blocks that are as
 high as the row, with as many cells, 1 wide, in a chain between two pads.
 
-END `wide` and `apart` give designs of COUNT nodes and as many nets of four pins, which are refused: `wide` at its first net,
-which has 513 nodes, and so behind the join; `apart` at its last node, which is in no net, and so behind the search for pads.
-"""
-import random
-import sys
+END `apart` gives a design of COUNT nodes and as many nets of four pins, which is refused at its last node: that is in no net, and
+so the refusal comes behind the network and the search for pads.
 
-folder, count, end = sys.argv[1], int(sys.argv[2]), sys.argv[3]
-seed = int(sys.argv[4]) if len(sys.argv) > 4 else 1
+With `--clock K`, END `local` or `apart` has one more net, of K nodes, and with `--buses N,K` N more of K nodes each; the nodes of
+one are spread over all. A net of more than 16 nodes has a star point.
+"""
+import argparse
+import random
+
+parser = argparse.ArgumentParser(description=__doc__, formatter_class=argparse.RawDescriptionHelpFormatter)
+parser.add_argument("folder")
+parser.add_argument("count", type=int)
+parser.add_argument("end", choices=["local", "row", "apart"])
+parser.add_argument("seed", type=int, nargs="?", default=1)
+parser.add_argument("--clock", type=int, metavar="K", default=0)
+parser.add_argument("--buses", metavar="N,K", default="0,0")
+asked = parser.parse_args()
+folder, count, end, seed = asked.folder, asked.count, asked.end, asked.seed
+
+
+def wide_nets(nodes):
+    """The nodes of each further net, by number: so many apart that they go around all nodes about once."""
+    number, size = map(int, asked.buses.split(","))
+    for first, pins in [(0, asked.clock)] * (asked.clock > 0) + [(k, size) for k in range(number)]:
+        if pins > nodes:
+            parser.error(f"there are {nodes} nodes for a net of {pins}")
+        yield [(first + k * nodes // pins) % nodes for k in range(pins)]
 
 
 def put(kind, lines):
@@ -36,20 +56,20 @@ def rows_of(rows, height, sites, origins=(0,)):
     return lines
 
 
-def refused():
+def apart():
     """Nodes without a pattern of places, and nets across the whole core."""
     terminals = count // 100
     rows = 1000
-    in_nets = count - 1 if end == "apart" else count
+    in_nets = count - 1
     names = [f"t{i}" if i < terminals else f"o{i}" for i in range(count)]
     put("nodes", ["UCLA nodes 1.0", f"NumNodes : {count}", f"NumTerminals : {terminals}"]
         + [f"\t{names[i]}\t{i % 7 + 1}\t12" + ("\tterminal" if i < terminals else "") for i in range(count)])
-    degrees = [513 if end == "wide" and i == 0 else 4 for i in range(count)]
-    nets = ["UCLA nets 1.0", f"NumNets : {count}", f"NumPins : {sum(degrees)}"]
-    for i, degree in enumerate(degrees):
-        nets.append(f"NetDegree : {degree} n{i}")
-        nets.extend(f"\t{names[(i + k * 7919) % in_nets]}\tI : {k}.500000\t-0.250000" for k in range(degree))
-    put("nets", nets)
+    nets = [[(i + k * 7919) % in_nets for k in range(4)] for i in range(count)] + list(wide_nets(in_nets))
+    lines = ["UCLA nets 1.0", f"NumNets : {len(nets)}", f"NumPins : {sum(map(len, nets))}"]
+    for i, net in enumerate(nets):
+        lines.append(f"NetDegree : {len(net)} n{i}")
+        lines.extend(f"\t{names[node]}\tI : {k % 4}.500000\t-0.250000" for k, node in enumerate(net))
+    put("nets", lines)
     put("wts", ["UCLA wts 1.0"] + [f"n{i}\t1" for i in range(0, count, 3)])
     put("pl", ["UCLA pl 1.0"] + [f"{names[i]}\t{i % 4001}\t{i % rows * 12}\t: N" + (" /FIXED" if i < terminals else "")
                                   for i in range(count)])
@@ -122,6 +142,7 @@ def local():
     for name, bottom, left, top, right in macros:
         beside = [(bottom, left - 1), (top, left), (bottom - 1, left), (bottom, right)]
         nets += [[(name, 4), (f"o{core.beside(r, c)}", 4)] for r, c in beside]
+    nets += [[(f"o{cell}", cell) for cell in net] for net in wide_nets(count)]
     lines = ["UCLA nets 1.0", f"NumNets : {len(nets)}", f"NumPins : {sum(map(len, nets))}"]
     for k, net in enumerate(nets):
         lines.append(f"NetDegree : {len(net)} n{k}")
@@ -161,4 +182,4 @@ if end == "local":
 elif end == "row":
     one_row()
 else:
-    refused()
+    apart()
