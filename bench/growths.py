@@ -89,6 +89,7 @@ CASES: Dict[str, Case] = {
     "one cell, four seats": Case("one_cell", ("--seats", "4")),
     "weights and a macro, one seat": Case("macro_block", ("--seats", "1")),
     "weights and a macro, four seats": Case("macro_block", ("--seats", "4")),
+    "a wide net, one seat": Case("wide_net", ("--seats", "1")),
     "a grid, one seat": Case("one_cell", ("--seats", "1", "--grid", "2,2,1")),
     "a bad schedule": Case("one_cell", ("--schedule", os.path.join(TOP, "designs", "macro_block", "macro_block.aux"))),
     "an empty schedule, two seats": Case("one_cell", ("--seats", "2", "--schedule", "/dev/null")),

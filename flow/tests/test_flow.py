@@ -37,6 +37,16 @@ class Place(Case):
             self.script("compare.py", f"out of {top}/{top}.aux", f"out of {top}/{top}.proud.pl")
         self.assertEqual(self.folders_beside(), [])
 
+    @needs_proud
+    def test_clock_and_reset_may_stay(self):
+        # Each of the two nets has more than 16 nodes, and so a star point, which isn't placed.
+        self.place(self.example("uart.json"), "uart", "out", "--levels", "1")
+        nets = read_design(self.path("out", "uart.aux")).nets
+        for name in ("clk", "reset_n"):
+            net = nets.names.index(name)
+            self.assertGreater(len({nets.node[pin] for pin in nets.pins(net)}), 16, name)
+        self.script("compare.py", "out/uart.aux", "out/uart.proud.pl")
+
     def folders_beside(self):
         return glob.glob(self.path("*.part*"))
 
