@@ -5,16 +5,16 @@ use Rattle.std.specs.List.{All, AllByRecursion, filter_map}
 use Rattle.std.proofs.lemmas.List.Elements.{recursion_from_All, filter_passes}
 use Rattle.book_text.specs.Lines.{NumberedLine, IsWord, is_comment_word, has_content, lines_of, numbered_from, content_of}
 use Rattle.book_files.specs.declared.fault.TextKind.{TextKind}
-use Rattle.book_files.specs.declared.fault.TextKind.TheVariants.{BadHeader, BadLine}
-use Rattle.book_files.specs.Words.{latest, is_header, is_keyed, is_keyword}
+use Rattle.book_files.specs.declared.fault.TextKind.TheVariants.{BadHeader}
+use Rattle.book_files.specs.Words.{latest, is_header, is_keyed}
 use Rattle.book_files.specs.Forms.Words.{◌>>=◌, count_of, size_of}
 use Rattle.book_files.specs.Entries.{NodeEntry}
-use Rattle.book_files.specs.Nodes.{NodeItem, header, total, terminals, node, node_in, total_in, terminals_in}
+use Rattle.book_files.specs.Nodes.{NodeItem, header, total, terminals, node, node_mark, node_in, total_in, terminals_in}
 use Rattle.book_files.specs.Forms.Nodes.{sized, node_of, node_meaning, node_ending, node_form}
 use Rattle.book_files.proofs.FormTexts.{Reads}
-use Rattle.book_files.specs.Ranges.{IsName, IsNodeInRange}
+use Rattle.book_files.specs.Ranges.{IsName, IsMarkedWell, IsNodeInRange}
 use Rattle.book_files.proofs.FewRecords.{records_few, records_good}
-use Rattle.book_files.proofs.GoodRecords.{IsSizeInRange, bind_good, if_good, size_good}
+use Rattle.book_files.proofs.GoodRecords.{IsSizeInRange, bind_good, if_good, marked_good, size_good}
 use Rattle.book_files.proofs.NodeDecides.{nodes_decided}
 
 -- the first word may stand for a node
@@ -43,15 +43,15 @@ count_good : (r : Result ℕ TextKind) (item : ℕ → NodeItem) → ((n : ℕ) 
 count_good (Ok n) item good = good n
 count_good (Err kind) item good = tt
 
-sized_good : (number : ℕ) (name width height : List ℕ) (fixed : Bool) → IsName name → IfOk (sized number name width height fixed) IsGoodItem
-sized_good number name width height fixed named = bind_good IsSizeInRange IsGoodItem (size_of width) _ (size_good width) (λ w w_good.
-    bind_good IsSizeInRange IsGoodItem (size_of height) (λ h. Ok (node (record { line = number; name = name; width = w; height = h; fixed = fixed }))) (size_good height)
-    (λ h h_good. record { name = named; width = w_good.range; height = h_good.range; width_sign = w_good.sign; height_sign = h_good.sign }))
+sized_good : (number : ℕ) (name width height : List ℕ) (fixed overlap : Bool) → IsName name → IsMarkedWell fixed overlap → IfOk (sized number name width height fixed overlap) IsGoodItem
+sized_good number name width height fixed overlap named marks = bind_good IsSizeInRange IsGoodItem (size_of width) _ (size_good width) (λ w w_good.
+    bind_good IsSizeInRange IsGoodItem (size_of height) (λ h. Ok (node (record { line = number; name = name; width = w; height = h; fixed = fixed; overlap = overlap }))) (size_good height)
+    (λ h h_good. record { name = named; width = w_good.range; height = h_good.range; width_sign = w_good.sign; height_sign = h_good.sign; marks = marks }))
 
 line_good : (number : ℕ) (words : List (List ℕ)) → IsNamed words → IfOk (node_of number words) IsGoodItem
-line_good number (name ∷ width ∷ height ∷ []) named = sized_good number name width height false named
+line_good number (name ∷ width ∷ height ∷ []) named = sized_good number name width height false false named (λ overlaps. overlaps)
 line_good number (name ∷ width ∷ height ∷ mark ∷ []) named =
-    if_good IsGoodItem (is_keyword (codes "terminal") mark) (sized number name width height true) (Err BadLine) (sized_good number name width height true named) tt
+    marked_good IsGoodItem (node_mark mark) (sized number name width height true) (λ overlap. sized_good number name width height true overlap named (λ _. refl))
 line_good number [] named = tt
 line_good number (name ∷ []) named = tt
 line_good number (name ∷ width ∷ []) named = tt

@@ -1,5 +1,5 @@
 -- The numbers of the records are in range.
-use Rattle.std.proofs.Common.{ℕ, ◌≤◌, Bool, true, false, List, cond, nat_le, ℤ, pos, neg_ℤ, int_lt, ◌≤ℤ◌, Result, Ok, Err, IfOk, arith}
+use Rattle.std.proofs.Common.{ℕ, ◌≤◌, Bool, true, false, List, Option, Some, None, cond, nat_le, ℤ, pos, neg_ℤ, int_lt, ◌≤ℤ◌, Result, Ok, Err, IfOk, arith}
 use Rattle.std.proofs.lemmas.Bool.{cond_both, leb-true}
 use Rattle.std.proofs.lemmas.Int.{ints}
 use Rattle.book_text.specs.declared.decimal.TheConstants.{MOST_MICRO}
@@ -8,7 +8,7 @@ use Rattle.book_text.specs.Decimal.{micro_size, is_number}
 use Rattle.std.specs.Str.Parse.{starts_with_minus}
 use Rattle.book_files.specs.declared.fault.TextKind.{TextKind}
 use Rattle.book_files.specs.declared.fault.TextKind.TheVariants.{BadNumber}
-use Rattle.book_files.specs.Forms.Words.{◌>>=◌, number_of_result, number_of, size_of, unless_negative}
+use Rattle.book_files.specs.Forms.Words.{◌>>=◌, number_of_result, number_of, size_of, unless_negative, marked}
 use Rattle.book_files.specs.Ranges.{IsInRange}
 
 -- in range, and not negative
@@ -19,6 +19,10 @@ pub record IsSizeInRange (value : ℤ) : Type 0 where
 pub bind_good : {A B : Type 0} (P : A → Type 0) (Q : B → Type 0) (r : Result A TextKind) (f : A → Result B TextKind) → IfOk r P → ((x : A) → P x → IfOk (f x) Q) → IfOk (r >>= f) Q
 bind_good P Q (Ok x) f good each = each x good
 bind_good P Q (Err kind) f good each = tt
+
+pub marked_good : {A : Type 0} (P : A → Type 0) (mark : Option Bool) (make : Bool → Result A TextKind) → ((overlap : Bool) → IfOk (make overlap) P) → IfOk (marked mark make) P
+marked_good P (Some overlap) make each = each overlap
+marked_good P None make each = tt
 
 -- what holds of each of two
 pub if_good : {A : Type 0} (P : A → Type 0) (b : Bool) (r s : Result A TextKind) → IfOk r P → IfOk s P → IfOk (cond b r s) P

@@ -9,9 +9,10 @@ use Rattle.book_files.specs.declared.orient.Orient.{Orient}
 use Rattle.book_files.specs.declared.orient.Orient.TheVariants.{N, S, E, W, FN, FS, FE, FW}
 use Rattle.book_files.specs.Grammar.{AreItems, IsReading}
 use Rattle.book_files.specs.Places.{PlaceItem, header, placed, place_in, orient_of}
+use Rattle.book_files.specs.Ranges.{IsMarkedWell}
 use Rattle.book_files.specs.PlaceRules.{IsPlaceEnd, IsPlaceLine, places_grammar}
 use Rattle.book_files.specs.Entries.{PlaceEntry}
-use Rattle.book_files.specs.PlaceText.{IsWritable, orient_word, fixed_words, place_words, line_of, placement_text, numbered}
+use Rattle.book_files.specs.PlaceText.{IsWritable, orient_word, mark_words, place_words, line_of, placement_text, numbered}
 
 -- a word without a colon at either end
 plain : (word : List ℕ) → 0 < length word → list_all is_word_byte word ≡ true → slice_index word 0 ≢ 58 → slice_index word (length word - 1) ≢ 58 → IsWord word
@@ -27,9 +28,10 @@ orient_is_word FS = plain (codes "FS") (omega arith) refl (λ e. omega (arith, e
 orient_is_word FE = plain (codes "FE") (omega arith) refl (λ e. omega (arith, e)) (λ e. omega (arith, e))
 orient_is_word FW = plain (codes "FW") (omega arith) refl (λ e. omega (arith, e)) (λ e. omega (arith, e))
 
-fixed_are_words : (fixed : Bool) → AllByRecursion IsWord (fixed_words fixed)
-fixed_are_words false = tt
-fixed_are_words true = (plain (codes "/FIXED") (omega arith) refl (λ e. omega (arith, e)) (λ e. omega (arith, e)), tt)
+marks_are_words : (fixed overlap : Bool) → AllByRecursion IsWord (mark_words fixed overlap)
+marks_are_words false overlap = tt
+marks_are_words true false = (plain (codes "/FIXED") (omega arith) refl (λ e. omega (arith, e)) (λ e. omega (arith, e)), tt)
+marks_are_words true true = (plain (codes "/FIXED_NI") (omega arith) refl (λ e. omega (arith, e)) (λ e. omega (arith, e)), tt)
 
 header_are_words : All IsWord (codes "UCLA" ∷ codes "pl" ∷ codes "1.0" ∷ [])
 header_are_words = All-from_recursion IsWord (codes "UCLA" ∷ codes "pl" ∷ codes "1.0" ∷ []) (
@@ -57,9 +59,11 @@ orient_back FS = refl
 orient_back FE = refl
 orient_back FW = refl
 
-end_back : (orient : Orient) (fixed : Bool) → IsPlaceEnd (codes ":" ∷ orient_word orient ∷ fixed_words fixed) orient fixed
-end_back orient false = (refl, orient_back orient, refl)
-end_back orient true = (refl, orient_back orient, refl, refl)
+end_back : (orient : Orient) (fixed overlap : Bool) → IsMarkedWell fixed overlap → IsPlaceEnd (codes ":" ∷ orient_word orient ∷ mark_words fixed overlap) orient fixed overlap
+end_back orient false false marks = (refl, orient_back orient, (refl, refl))
+end_back orient false true marks = let e = marks refl in cc
+end_back orient true false marks = (refl, orient_back orient, (refl, refl))
+end_back orient true true marks = (refl, orient_back orient, (refl, refl))
 
 placed_back : (places : List PlaceEntry) → filter_map place_in (map placed places) ≡ places
 placed_back [] = refl
@@ -89,7 +93,7 @@ module _ (words_back : (words : List (List ℕ)) → All IsWord words → words_
           colon_is_word,
           (
             orient_is_word place.orient,
-            fixed_are_words place.fixed,
+            marks_are_words place.fixed place.overlap,
           ),
         ),
       ),
@@ -97,11 +101,11 @@ module _ (words_back : (words : List (List ℕ)) → All IsWord words → words_
   )
 
   abbrev at_line : ℕ → PlaceEntry → PlaceEntry
-  at_line n place = record { line = n; name = place.name; x = place.x; y = place.y; orient = place.orient; fixed = place.fixed }
+  at_line n place = record { line = n; name = place.name; x = place.x; y = place.y; orient = place.orient; fixed = place.fixed; overlap = place.overlap }
 
   line_back : (n : ℕ) (place : PlaceEntry) → IsWritable place → IsPlaceLine (record { number = n; words = place_words place }) (at_line n place)
   line_back n place good = record {
-    shape = (omega arith, end_back place.orient place.fixed);
+    shape = (omega arith, end_back place.orient place.fixed place.overlap good.range.marks);
     number = refl;
     name = refl;
     x = number_back place.x good.range.x.low good.range.x.high;

@@ -12,7 +12,7 @@ use Rattle.book_files.specs.declared.fault.TextKind.{TextKind}
 use Rattle.book_files.specs.declared.fault.TextKind.TheVariants.{BadHeader, BadLine, BadNumber, CountMismatch}
 use Rattle.book_files.specs.Forms.Form.{Form}
 use Rattle.book_files.specs.Words.{latest, is_header, is_keyed, is_keyword}
-use Rattle.book_files.specs.Forms.Words.{◌>>=◌, number_of_result, number_of, whole_of, size_of, count_of}
+use Rattle.book_files.specs.Forms.Words.{◌>>=◌, number_of_result, number_of, whole_of, size_of, marked, count_of}
 use Rattle.book_files.specs.Shapes.{word_at, IsWhole, IsNumber, IsSize, HasWhole, IsOnceShape, IsShapeFault, IsEmptyFault}
 
 -- What is said of a line of shape S and of numbers N: another shape, then bad numbers, then a value as the rules want it.
@@ -70,6 +70,12 @@ module _ {A : Type 0} (S N : Type 0) (Is : A → Type 0) where
   judges_bind P (Err BadLine) f shape spells has go_on = let e = spells.fault BadLine refl in cc
   judges_bind P (Err BadNumber) f shape spells has go_on = (shape, λ numbers. let x = has numbers in let e = spells.back x.0 x.1 in cc)
   judges_bind P (Err (CountMismatch stated found)) f shape spells has go_on = let e = spells.fault (CountMismatch stated found) refl in cc
+
+  -- a mark that the line wants, and then the rest of the line
+  pub judges_marked : (mark : Option Bool) (make : Bool → Result A TextKind) → (S → (overlap : Bool) × (mark ≡ Some overlap))
+      → ((overlap : Bool) → mark ≡ Some overlap → Judges S N Is (make overlap)) → Judges S N Is (marked mark make)
+  judges_marked (Some overlap) make has go_on = go_on overlap refl
+  judges_marked None make has go_on = λ shape. let is = has shape in cc
 
   -- a value that the line wants, of which its shape is known
   pub judges_stated : (r : Result A TextKind) → S → Spells Is r → (N → (x : A) × Is x) → ((x : A) → Is x → N) → Judges S N Is r

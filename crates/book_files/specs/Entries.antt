@@ -26,9 +26,10 @@ pub record NodeEntry : Type 0 where
   pub width : ℤ
   pub height : ℤ
   pub fixed : Bool
+  pub overlap : Bool
 
 abbrev pub node_entry : NodeLine → NodeEntry
-node_entry n = record { line = n.line; name = n.name.0.now; width = n.width.0; height = n.height.0; fixed = n.fixed }
+node_entry n = record { line = n.line; name = n.name.0.now; width = n.width.0; height = n.height.0; fixed = n.fixed; overlap = n.overlap }
 
 abbrev pub node_entries : List NodeLine → List NodeEntry
 node_entries lines = map node_entry lines
@@ -52,9 +53,10 @@ pub record PlaceEntry : Type 0 where
   pub y : ℤ
   pub orient : Orient
   pub fixed : Bool
+  pub overlap : Bool
 
 abbrev pub place_entry : PlaceLine → PlaceEntry
-place_entry p = record { line = p.line; name = p.name.0.now; x = p.x.0; y = p.y.0; orient = p.orient; fixed = p.fixed }
+place_entry p = record { line = p.line; name = p.name.0.now; x = p.x.0; y = p.y.0; orient = p.orient; fixed = p.fixed; overlap = p.overlap }
 
 abbrev pub place_entries : List PlaceLine → List PlaceEntry
 place_entries lines = map place_entry lines

@@ -4,23 +4,23 @@ use Rattle.book_text.specs.Lines.{NumberedLine}
 use Rattle.book_files.specs.declared.fault.TextKind.{TextKind}
 use Rattle.book_files.specs.declared.fault.TextKind.TheVariants.{BadHeader, BadLine, BadNumber, CountMismatch}
 use Rattle.book_files.specs.Grammar.{Grammar}
-use Rattle.book_files.specs.Words.{latest, is_keyed, is_keyword}
+use Rattle.book_files.specs.Words.{latest, is_keyed}
 use Rattle.book_files.specs.Shapes.{word_at, IsWhole, IsSize, HasWhole, HasSize, IsOnceShape, IsHeaderLine, IsShapeFault}
 use Rattle.book_files.specs.Entries.{NodeEntry}
-use Rattle.book_files.specs.Nodes.{NodeItem, header, total, terminals, node, total_in, terminals_in, node_in}
+use Rattle.book_files.specs.Nodes.{NodeItem, header, total, terminals, node, node_mark, total_in, terminals_in, node_in}
 
 -- a count line by its first two words
 abbrev pub is_counted : List (List ℕ) → Bool
 is_counted words = is_keyed (codes "numnodes") words || is_keyed (codes "numterminals") words
 
--- `name width height`, or the same and `terminal`
-abbrev pub IsNodeShape : List (List ℕ) → Bool → Type 0
-IsNodeShape words false = IsFalse (is_counted words) × (length words ≡ 3)
-IsNodeShape words true = IsFalse (is_counted words) × (length words ≡ 4) × IsTrue (is_keyword (codes "terminal") (word_at words 3))
+-- `name width height`, or the same and `terminal` or, where the node allows overlap, `terminal_NI`
+abbrev pub IsNodeShape : List (List ℕ) → Bool → Bool → Type 0
+IsNodeShape words false overlap = IsFalse (is_counted words) × (length words ≡ 3) × (overlap ≡ false)
+IsNodeShape words true overlap = IsFalse (is_counted words) × (length words ≡ 4) × (node_mark (word_at words 3) ≡ Some overlap)
 
 -- the line is the node's
 pub record IsNodeLine (line : NumberedLine) (entry : NodeEntry) : Type 0 where
-  pub shape : IsNodeShape line.words entry.fixed
+  pub shape : IsNodeShape line.words entry.fixed entry.overlap
   pub number : entry.line ≡ line.number
   pub name : entry.name ≡ word_at line.words 0
   pub width : IsSize (word_at line.words 1) entry.width
@@ -34,7 +34,7 @@ IsNodesItem before line (node entry) = (before ≢ []) × IsNodeLine line entry
 
 abbrev pub HasNodesShape : List NodeItem → List (List ℕ) → Type 0
 HasNodesShape before words = IsOnceShape (codes "numnodes") total_in before words ⊎ (IsOnceShape (codes "numterminals") terminals_in before words
-    ⊎ ((fixed : Bool) × IsNodeShape words fixed))
+    ⊎ ((fixed : Bool) × (overlap : Bool) × IsNodeShape words fixed overlap))
 
 -- each word in a number's place is a number in its range
 pub record HasNodesNumbers (words : List (List ℕ)) : Type 0 where

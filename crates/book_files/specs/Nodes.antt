@@ -1,5 +1,6 @@
 -- The nodes file: a header, count lines and a line per node.
-use Rattle.std.specs.Prelude.{ℕ, Option, Some, None}
+use Rattle.std.specs.Prelude.{ℕ, Bool, true, false, List, codes, Option, Some, None, if◌then◌else◌}
+use Rattle.book_files.specs.Words.{is_keyword}
 use Rattle.book_files.specs.Entries.{NodeEntry}
 
 -- what a line of a nodes file is
@@ -8,6 +9,10 @@ pub data NodeItem : Type 0 where
   total : ℕ → NodeItem
   terminals : ℕ → NodeItem
   node : NodeEntry → NodeItem
+
+-- a mark of a fixed node: whether the node allows overlap
+abbrev pub node_mark : List ℕ → Option Bool
+node_mark word = if is_keyword (codes "terminal") word then Some false else if is_keyword (codes "terminal_ni") word then Some true else None
 
 abbrev pub total_in : NodeItem → Option ℕ
 total_in header = None

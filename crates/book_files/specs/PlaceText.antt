@@ -17,13 +17,15 @@ orient_word FS = codes "FS"
 orient_word FE = codes "FE"
 orient_word FW = codes "FW"
 
-abbrev pub fixed_words : Bool → List (List ℕ)
-fixed_words true = codes "/FIXED" ∷ []
-fixed_words false = []
+-- the mark of a fixed node, by whether it allows overlap
+abbrev pub mark_words : Bool → Bool → List (List ℕ)
+mark_words false overlap = []
+mark_words true false = codes "/FIXED" ∷ []
+mark_words true true = codes "/FIXED_NI" ∷ []
 
--- `NAME X Y : ORIENT`, and `/FIXED` behind it for a fixed node
+-- `NAME X Y : ORIENT`, and behind it `/FIXED_NI` for a fixed node that allows overlap and `/FIXED` for any other fixed node
 abbrev pub place_words : PlaceEntry → List (List ℕ)
-place_words place = place.name ∷ canonical place.x ∷ canonical place.y ∷ codes ":" ∷ orient_word place.orient ∷ fixed_words place.fixed
+place_words place = place.name ∷ canonical place.x ∷ canonical place.y ∷ codes ":" ∷ orient_word place.orient ∷ mark_words place.fixed place.overlap
 
 -- the words with a space between each two, and the line's end
 abbrev pub line_of : List (List ℕ) → List ℕ
@@ -36,7 +38,7 @@ placement_text places = line_of (codes "UCLA" ∷ codes "pl" ∷ codes "1.0" ∷
 -- the same places on the lines from the given number on
 abbrev pub numbered : ℕ → List PlaceEntry → List PlaceEntry
 numbered n [] = []
-numbered n (place ∷ places) = record { line = n; name = place.name; x = place.x; y = place.y; orient = place.orient; fixed = place.fixed } ∷ numbered (n + 1) places
+numbered n (place ∷ places) = record { line = n; name = place.name; x = place.x; y = place.y; orient = place.orient; fixed = place.fixed; overlap = place.overlap } ∷ numbered (n + 1) places
 
 -- a place that a reader of its text gives back
 pub record IsWritable (place : PlaceEntry) : Type 0 where

@@ -1,5 +1,5 @@
 -- The placement file: a header, and a line per placed node.
-use Rattle.std.specs.Prelude.{ℕ, Bool, List, codes, Option, Some, None, if◌then◌else◌}
+use Rattle.std.specs.Prelude.{ℕ, Bool, true, false, List, codes, Option, Some, None, if◌then◌else◌}
 use Rattle.book_files.specs.declared.orient.Orient.{Orient}
 use Rattle.book_files.specs.declared.orient.Orient.TheVariants.{N, S, E, W, FN, FS, FE, FW}
 use Rattle.book_files.specs.Words.{is_keyword}
@@ -22,5 +22,6 @@ orient_of word =
     else if is_keyword (codes "fn") word then Some FN else if is_keyword (codes "fs") word then Some FS
     else if is_keyword (codes "fe") word then Some FE else if is_keyword (codes "fw") word then Some FW else None
 
-abbrev pub is_fixed_mark : List ℕ → Bool
-is_fixed_mark word = is_keyword (codes "/fixed") word
+-- a mark of a fixed node: whether the node allows overlap
+abbrev pub place_mark : List ℕ → Option Bool
+place_mark word = if is_keyword (codes "/fixed") word then Some false else if is_keyword (codes "/fixed_ni") word then Some true else None

@@ -1,5 +1,5 @@
 -- What holds of the records of a file: the ranges of their numbers, and that the name of a node is a word that begins no comment.
-use Rattle.std.specs.Prelude.{◌≤◌, ℕ, List, length, ℤ, pos, ◌≤ℤ◌, ◌<ℤ◌, IsFalse}
+use Rattle.std.specs.Prelude.{◌≤◌, ℕ, List, length, ℤ, pos, ◌≤ℤ◌, ◌<ℤ◌, Bool, IsTrue, IsFalse}
 use Rattle.std.specs.List.{AllByRecursion, sum_by}
 use Rattle.book_text.specs.Lines.{IsWord, is_comment_word}
 use Rattle.book_text.specs.Coordinates.{IsMicro}
@@ -15,12 +15,17 @@ pub record IsName (name : List ℕ) : Type 0 where
   pub word : IsWord name
   pub plain : IsFalse (is_comment_word name)
 
+-- only a fixed node allows overlap
+abbrev pub IsMarkedWell : Bool → Bool → Type 0
+IsMarkedWell fixed overlap = IsTrue overlap → IsTrue fixed
+
 pub record IsNodeInRange (node : NodeEntry) : Type 0 where
   pub name : IsName node.name
   pub width : IsInRange node.width
   pub height : IsInRange node.height
   pub width_sign : pos 0 ≤ℤ node.width
   pub height_sign : pos 0 ≤ℤ node.height
+  pub marks : IsMarkedWell node.fixed node.overlap
 
 abbrev pub IsWeightInRange : WeightEntry → Type 0
 IsWeightInRange weight = IsInRange weight.weight
@@ -28,6 +33,7 @@ IsWeightInRange weight = IsInRange weight.weight
 pub record IsPlaceInRange (place : PlaceEntry) : Type 0 where
   pub x : IsInRange place.x
   pub y : IsInRange place.y
+  pub marks : IsMarkedWell place.fixed place.overlap
 
 pub record IsPinInRange (pin : PinEntry) : Type 0 where
   pub dx : IsInRange pin.dx

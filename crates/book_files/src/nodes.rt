@@ -4,7 +4,7 @@ ghost use Rattle.book_files.specs.Ranges.{IsNodeInRange};
 ghost use Rattle.book_files.specs.Grammar.{Answers};
 ghost use Rattle.book_files.specs.NodeRules.{nodes_grammar};
 ghost use Rattle.book_files.specs.Forms.Progress.{Gives};
-ghost use Rattle.book_files.specs.Nodes.{node};
+ghost use Rattle.book_files.specs.Nodes.{node, node_mark};
 ghost use Rattle.book_files.specs.Forms.Nodes.{sized, node_of};
 ghost use Rattle.book_files.specs.Entries.{node_entry, node_entries};
 
@@ -125,19 +125,16 @@ impl<'a> Progress<'a> for NodesSoFar<'a> {
     }
 }
 
-/// A node line: three words, or four of which the last is `terminal`.
+/// A node line: three words, or four of which the last is a mark.
 fn node_of<'a>(number: u64, words: &[&'a [u8]]) -> Result<NodeLine<'a>, TextKind>
     ensures { Gives (λ line. node (node_entry line)) result
         (node_of number (map (λ w. w.now) words.now)) }
 {
     match words {
-        [name, width, height] => sized(number, name, width, height, false),
+        [name, width, height] => sized(number, name, width, height, false, false),
         [name, width, height, mark] => {
-            if is_keyword(b"terminal", mark) {
-                sized(number, name, width, height, true)
-            } else {
-                Err(TextKind::BadLine)
-            }
+            let overlap = node_mark(mark).ok_or(TextKind::BadLine)?;
+            sized(number, name, width, height, true, overlap)
         }
         _ => Err(TextKind::BadLine),
     }
@@ -150,9 +147,10 @@ fn sized<'a>(
     width: &[u8],
     height: &[u8],
     fixed: bool,
+    overlap: bool,
 ) -> Result<NodeLine<'a>, TextKind>
     ensures { Gives (λ line. node (node_entry line)) result
-        (sized number name.now width.now height.now fixed) }
+        (sized number name.now width.now height.now fixed overlap) }
 {
     Ok(NodeLine {
         line: number,
@@ -160,5 +158,20 @@ fn sized<'a>(
         width: size_of(width)?,
         height: size_of(height)?,
         fixed,
+        overlap,
     })
+}
+
+/// What a mark says of its node, which is fixed: whether it allows overlap. The mark is `terminal` or `terminal_NI`, in any ASCII
+/// case.
+fn node_mark(word: &[u8]) -> Option<bool>
+    ensures { result ≡ node_mark word.now }
+{
+    if is_keyword(b"terminal", word) {
+        Some(false)
+    } else if is_keyword(b"terminal_ni", word) {
+        Some(true)
+    } else {
+        None
+    }
 }

@@ -1,10 +1,10 @@
-ghost use Rattle.std.specs.Prelude.{◌≡◌, false, map, IsTrue, MatchResult, ◌≤◌, length, IfOk};
+ghost use Rattle.std.specs.Prelude.{◌≡◌, map, ◌≤◌, length, IfOk};
 ghost use Rattle.std.specs.List.{AllByRecursion};
 ghost use Rattle.book_files.specs.Ranges.{IsPlaceInRange};
 ghost use Rattle.book_files.specs.Grammar.{Answers};
 ghost use Rattle.book_files.specs.PlaceRules.{places_grammar};
 ghost use Rattle.book_files.specs.Forms.Progress.{Gives};
-ghost use Rattle.book_files.specs.Places.{placed, is_fixed_mark, orient_of};
+ghost use Rattle.book_files.specs.Places.{placed, place_mark, orient_of};
 ghost use Rattle.book_files.specs.Forms.Places.{placed_at, turned, place_of};
 ghost use Rattle.book_files.specs.Entries.{place_entry, place_entries};
 
@@ -93,21 +93,21 @@ impl<'a> Progress<'a> for PlacesSoFar<'a> {
     }
 }
 
-/// A name and its place, then an orientation behind a colon or none, then `/FIXED` or not.
+/// A name and its place, then an orientation behind a colon or none, then a mark or none.
 fn place_of<'a>(number: u64, words: &[&'a [u8]]) -> Result<PlaceLine<'a>, TextKind>
     ensures { Gives (λ line. placed (place_entry line)) result
         (place_of number (map (λ w. w.now) words.now)) }
 {
     match words {
-        [name, x, y] => placed_at(number, name, x, y, Orient::N, false),
+        [name, x, y] => placed_at(number, name, x, y, Orient::N, false, false),
         [name, x, y, mark] => {
-            expect_fixed_mark(mark)?;
-            placed_at(number, name, x, y, Orient::N, true)
+            let overlap = place_mark(mark).ok_or(TextKind::BadLine)?;
+            placed_at(number, name, x, y, Orient::N, true, overlap)
         }
-        [name, x, y, colon, orient] => turned(number, name, x, y, colon, orient, false),
+        [name, x, y, colon, orient] => turned(number, name, x, y, colon, orient, false, false),
         [name, x, y, colon, orient, mark] => {
-            expect_fixed_mark(mark)?;
-            turned(number, name, x, y, colon, orient, true)
+            let overlap = place_mark(mark).ok_or(TextKind::BadLine)?;
+            turned(number, name, x, y, colon, orient, true, overlap)
         }
         _ => Err(TextKind::BadLine),
     }
@@ -122,12 +122,13 @@ fn turned<'a>(
     colon: &[u8],
     orient: &[u8],
     fixed: bool,
+    overlap: bool,
 ) -> Result<PlaceLine<'a>, TextKind>
     ensures { Gives (λ line. placed (place_entry line)) result
-        (turned number name.now x.now y.now colon.now (orient_of orient.now) fixed) }
+        (turned number name.now x.now y.now colon.now (orient_of orient.now) fixed overlap) }
 {
     match orient_of(orient) {
-        Some(orient) if is_colon(colon) => placed_at(number, name, x, y, orient, fixed),
+        Some(orient) if is_colon(colon) => placed_at(number, name, x, y, orient, fixed, overlap),
         _ => Err(TextKind::BadLine),
     }
 }
@@ -140,9 +141,10 @@ fn placed_at<'a>(
     y: &[u8],
     orient: Orient,
     fixed: bool,
+    overlap: bool,
 ) -> Result<PlaceLine<'a>, TextKind>
     ensures { Gives (λ line. placed (place_entry line)) result
-        (placed_at number name.now x.now y.now orient fixed) }
+        (placed_at number name.now x.now y.now orient fixed overlap) }
 {
     Ok(PlaceLine {
         line: number,
@@ -151,18 +153,20 @@ fn placed_at<'a>(
         y: number_of(y)?,
         orient,
         fixed,
+        overlap,
     })
 }
 
-/// The word is `/FIXED`, in any ASCII case.
-fn expect_fixed_mark(word: &[u8]) -> Result<(), TextKind>
-    ensures { MatchResult result (λ _. IsTrue (is_fixed_mark word.now))
-        (λ kind. (kind ≡ TextKind.BadLine) × (is_fixed_mark word.now ≡ false)) }
+/// What a mark says of its node, which is fixed: whether it allows overlap. The mark is `/FIXED` or `/FIXED_NI`, in any ASCII case.
+fn place_mark(word: &[u8]) -> Option<bool>
+    ensures { result ≡ place_mark word.now }
 {
     if is_keyword(b"/fixed", word) {
-        Ok(())
+        Some(false)
+    } else if is_keyword(b"/fixed_ni", word) {
+        Some(true)
     } else {
-        Err(TextKind::BadLine)
+        None
     }
 }
 

@@ -33,8 +33,10 @@ pub struct NodeLine<'a> {
     pub name: Name<'a>,
     pub width: Micro,
     pub height: Micro,
-    /// Whether it is marked `terminal`.
+    /// Whether it is marked `terminal` or `terminal_NI`.
     pub fixed: bool,
+    /// Whether it is marked `terminal_NI`.
+    pub overlap: bool,
 }
 
 /// A line of a `.wts` file: the weight in millionths of the nets of a name.
@@ -52,8 +54,10 @@ pub struct PlaceLine<'a> {
     pub x: Micro,
     pub y: Micro,
     pub orient: Orient,
-    /// Whether it is marked `/FIXED`.
+    /// Whether it is marked `/FIXED` or `/FIXED_NI`.
     pub fixed: bool,
+    /// Whether it is marked `/FIXED_NI`.
+    pub overlap: bool,
 }
 
 /// A pin's line in a `.nets` file: its node, and its offset in millionths from the node's centre.

@@ -1,12 +1,13 @@
 //! The text of a placement.
 
-ghost use Rattle.std.specs.Prelude.{◌≡◌, ◌++◌, List, [], ◌∷◌, codes, if◌then◌else◌, IfOk, OnOk};
+ghost use Rattle.std.specs.Prelude.{◌≡◌, ◌++◌, List, IfOk, OnOk};
 ghost use Rattle.std.specs.List.{AllByRecursion};
 ghost use Rattle.book_text.specs.Decimal.{canonical};
 ghost use Rattle.book_files.specs.Grammar.{IsReading};
 ghost use Rattle.book_files.specs.PlaceRules.{places_grammar};
-ghost use Rattle.book_files.specs.Ranges.{IsName};
 ghost use Rattle.book_files.specs.PlaceText.{IsWritable, orient_word, place_words, line_of, placement_text, numbered};
+ghost use Rattle.book_files.specs.Ranges.{IsName, IsMarkedWell};
+ghost use Rattle.book_files.specs.Forms.Places.{mark_end};
 ghost use Rattle.book_files.specs.Entries.{PlaceEntry, place_entry, place_entries};
 
 use crate::orient::Orient;
@@ -14,10 +15,11 @@ use crate::records::PlaceLine;
 use book_text::{Memory, Micro, canonical_is_word, canonical_reads_back, put_micro, spaced_words};
 use std::alloc::Global;
 
-/// The text of these places: the header, and a line `NAME X Y : ORIENT` for each, with `/FIXED` behind it where it is
-/// fixed. The lines' own numbers aren't read.
+/// The text of these places: the header, and a line `NAME X Y : ORIENT` for each, behind which stands `/FIXED_NI` where overlap is
+/// allowed and else `/FIXED` where it is fixed. The lines' own numbers aren't read. Only a fixed place allows overlap.
 pub fn write_pl(alloc: Global, lines: &[PlaceLine<'_>]) -> Result<Vec<u8>, Memory>
     requires names { AllByRecursion (λ place. IsName place.name) (place_entries lines.now) }
+    requires marks { AllByRecursion (λ place. IsMarkedWell place.fixed place.overlap) (place_entries lines.now) }
     ensures { IfOk result (λ text. text.items ≡ placement_text (place_entries lines.now)) }
 {
     let mut text = Vec::new(alloc);
@@ -39,15 +41,19 @@ fn push_place(text: &mut Vec<u8>, line: &PlaceLine<'_>) -> Result<(), Memory>
     put_number(text, line.y)?;
     text.extend_from_slice(b" : ")?;
     text.extend_from_slice(orient_word(line.orient))?;
-    text.extend_from_slice(place_end(line.fixed))?;
+    text.extend_from_slice(place_end(line.fixed, line.overlap))?;
     Ok(())
 }
 
 /// What ends a place's line.
-fn place_end(fixed: bool) -> &'static [u8]
-    ensures { result.now ≡ (if fixed then codes " /FIXED" else []) ++ 10 ∷ [] }
+fn place_end(fixed: bool, overlap: bool) -> &'static [u8]
+    ensures { result.now ≡ mark_end fixed overlap }
 {
-    if fixed { b" /FIXED\n" } else { b"\n" }
+    match (fixed, overlap) {
+        (false, _) => b"\n",
+        (true, false) => b" /FIXED\n",
+        (true, true) => b" /FIXED_NI\n",
+    }
 }
 
 /// Appends the canonical decimal of a number.

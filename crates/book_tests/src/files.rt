@@ -39,27 +39,36 @@ fn is_same(found: &[u8], expected: &[u8]) -> bool {
 /// A text, and the line and the kind of its first fault.
 type Faulty = (&'static [u8], u64, TextKind);
 
-/// A node's line, name, width, height, and whether it is fixed.
-type NodeRow = (u64, &'static [u8], i64, i64, bool);
+/// Whether a node is fixed, and whether it allows overlap.
+type Marked = (bool, bool);
+
+const MOVABLE: Marked = (false, false);
+
+const FIXED: Marked = (true, false);
+
+const FIXED_NI: Marked = (true, true);
+
+/// A node's line, name, width, height, and how it is marked.
+type NodeRow = (u64, &'static [u8], i64, i64, Marked);
 
 const NODES: &[(&[u8], &[NodeRow])] = &[
     (
         b"UCLA nodes 1.0\nNumNodes : 3\nNumTerminals : 2\na 2 10\nl 0 0 terminal\nr 0 0 terminal\n",
         &[
-            (4, b"a", 2_000_000, 10_000_000, false),
-            (5, b"l", 0, 0, true),
-            (6, b"r", 0, 0, true),
+            (4, b"a", 2_000_000, 10_000_000, MOVABLE),
+            (5, b"l", 0, 0, FIXED),
+            (6, b"r", 0, 0, FIXED),
         ],
     ),
     (
         b"UCLA nodes 1.0\n# design B\n\nNumNodes : 5\nNumTerminals : 3\n\tu\t3\t12\n\tv\t5\t12\n\
             \tm\t6\t24\tterminal\n\ti\t1\t1\tterminal\n\tq\t1\t1\tterminal\n",
         &[
-            (6, b"u", 3_000_000, 12_000_000, false),
-            (7, b"v", 5_000_000, 12_000_000, false),
-            (8, b"m", 6_000_000, 24_000_000, true),
-            (9, b"i", 1_000_000, 1_000_000, true),
-            (10, b"q", 1_000_000, 1_000_000, true),
+            (6, b"u", 3_000_000, 12_000_000, MOVABLE),
+            (7, b"v", 5_000_000, 12_000_000, MOVABLE),
+            (8, b"m", 6_000_000, 24_000_000, FIXED),
+            (9, b"i", 1_000_000, 1_000_000, FIXED),
+            (10, b"q", 1_000_000, 1_000_000, FIXED),
         ],
     ),
     (
@@ -67,20 +76,30 @@ const NODES: &[(&[u8], &[NodeRow])] = &[
             NUMNODES: 4\r\nNumNodes 1 2\r\n : +.5 5. TERMINAL\r\n  # no node\r\n\
             b#1\t 1000000 2.5E-1",
         &[
-            (5, b"a", 0, 10_000_000, false),
-            (7, b"NumNodes", 1_000_000, 2_000_000, false),
-            (8, b":", 500_000, 5_000_000, true),
-            (10, b"b#1", 1_000_000_000_000, 250_000, false),
+            (5, b"a", 0, 10_000_000, MOVABLE),
+            (7, b"NumNodes", 1_000_000, 2_000_000, MOVABLE),
+            (8, b":", 500_000, 5_000_000, FIXED),
+            (10, b"b#1", 1_000_000_000_000, 250_000, MOVABLE),
+        ],
+    ),
+    (
+        b"UCLA nodes 1.0\nNumNodes : 4\nl 0 0 terminal_NI\nm 6 24 terminal\n\
+            n 6 24 TERMINAL_ni\nterminal_NI 2 10\n",
+        &[
+            (3, b"l", 0, 0, FIXED_NI),
+            (4, b"m", 6_000_000, 24_000_000, FIXED),
+            (5, b"n", 6_000_000, 24_000_000, FIXED_NI),
+            (6, b"terminal_NI", 2_000_000, 10_000_000, MOVABLE),
         ],
     ),
     (b"UCLA nodes 1.0\nNumNodes : 0", &[]),
 ];
 
 fn are_nodes(lines: &[NodeLine<'_>], rows: &[NodeRow]) -> bool {
-    for (line, (number, name, width, height, fixed)) in lines.iter().zip(rows) {
+    for (line, (number, name, width, height, marked)) in lines.iter().zip(rows) {
         let is_sized = (line.width, line.height) == (Micro(*width), Micro(*height));
-        let is_placed = (line.line, line.fixed) == (*number, *fixed);
-        if !(is_sized && is_placed && is_same(line.name.0, name)) {
+        let is_marked = (line.fixed, line.overlap) == *marked && line.line == *number;
+        if !(is_sized && is_marked && is_same(line.name.0, name)) {
             return false;
         }
     }
@@ -95,7 +114,7 @@ fn nodes_files_are_read(rt: HostRuntime) {
     }
 }
 
-const FAULTY_NODES: [Faulty; 30] = [
+const FAULTY_NODES: [Faulty; 32] = [
     (b"", 1, TextKind::BadHeader),
     (b"\n\r\n# nothing\n", 4, TextKind::BadHeader),
     (b"\nUCLA nets 1.0\n", 2, TextKind::BadHeader),
@@ -145,13 +164,15 @@ const FAULTY_NODES: [Faulty; 30] = [
     (b"UCLA nodes 1.0\na\n", 2, TextKind::BadLine),
     (b"UCLA nodes 1.0\na 2\n", 2, TextKind::BadLine),
     (b"UCLA nodes 1.0\na 2 10 fixed\n", 2, TextKind::BadLine),
-    (
-        b"UCLA nodes 1.0\na 2 10 terminal_NI\n",
-        2,
-        TextKind::BadLine,
-    ),
+    (b"UCLA nodes 1.0\na 2 10 terminal_N\n", 2, TextKind::BadLine),
+    (b"UCLA nodes 1.0\na 2 10 /FIXED_NI\n", 2, TextKind::BadLine),
     (b"UCLA nodes 1.0\na 2 10 terminal x\n", 2, TextKind::BadLine),
-    (b"UCLA nodes 1.0\na x y terminal_NI\n", 2, TextKind::BadLine),
+    (b"UCLA nodes 1.0\na x y terminal_N\n", 2, TextKind::BadLine),
+    (
+        b"UCLA nodes 1.0\na x y terminal_NI\n",
+        2,
+        TextKind::BadNumber,
+    ),
     (b"UCLA nodes 1.0\na -2 10\n", 2, TextKind::BadNumber),
     (b"UCLA nodes 1.0\na 2 -0.000001\n", 2, TextKind::BadNumber),
     (b"UCLA nodes 1.0\na : 10\n", 2, TextKind::BadNumber),
@@ -211,27 +232,27 @@ const FAULTY_WEIGHTS: [Faulty; 9] = [
     (b"UCLA wts 1.0\nn0: 2\n", 2, TextKind::BadNumber),
 ];
 
-/// A place's line, name, coordinates, orientation, and whether it is fixed.
-type PlaceRow = (u64, &'static [u8], i64, i64, Orient, bool);
+/// A place's line, name, coordinates, orientation, and how it is marked.
+type PlaceRow = (u64, &'static [u8], i64, i64, Orient, Marked);
 
 const PLACES: &[(&[u8], &[PlaceRow])] = &[
     (
         b"UCLA pl 1.0\na 0 0 : N\nl 0 5 : N /FIXED\nr 10 5 : N /FIXED\n",
         &[
-            (2, b"a", 0, 0, Orient::N, false),
-            (3, b"l", 0, 5_000_000, Orient::N, true),
-            (4, b"r", 10_000_000, 5_000_000, Orient::N, true),
+            (2, b"a", 0, 0, Orient::N, MOVABLE),
+            (3, b"l", 0, 5_000_000, Orient::N, FIXED),
+            (4, b"r", 10_000_000, 5_000_000, Orient::N, FIXED),
         ],
     ),
     (
         b"UCLA pl 1.0\nu\t0\t0\t: N\nv\t0\t0\t: N\nm\t14\t0\t: N /FIXED\n\
             i\t-1\t18\t: N /FIXED\nq\t20\t30\t: N /FIXED\n",
         &[
-            (2, b"u", 0, 0, Orient::N, false),
-            (3, b"v", 0, 0, Orient::N, false),
-            (4, b"m", 14_000_000, 0, Orient::N, true),
-            (5, b"i", -1_000_000, 18_000_000, Orient::N, true),
-            (6, b"q", 20_000_000, 30_000_000, Orient::N, true),
+            (2, b"u", 0, 0, Orient::N, MOVABLE),
+            (3, b"v", 0, 0, Orient::N, MOVABLE),
+            (4, b"m", 14_000_000, 0, Orient::N, FIXED),
+            (5, b"i", -1_000_000, 18_000_000, Orient::N, FIXED),
+            (6, b"q", 20_000_000, 30_000_000, Orient::N, FIXED),
         ],
     ),
     (
@@ -239,24 +260,32 @@ const PLACES: &[(&[u8], &[PlaceRow])] = &[
             r 1e+01 5.000000 : n /fixed\r\nc 1 1: fs\r\n: 1 2 :W\r\nd 1 1 : e\nd 1 1 : S\n\
             d 1 1 : FN\nd 1 1 : Fe\nd 1 1 : fW",
         &[
-            (3, b"a", 1_500_000, -2_000_000, Orient::N, false),
-            (4, b"b", 3_000_000, 4_000_000, Orient::N, true),
-            (6, b"r", 10_000_000, 5_000_000, Orient::N, true),
-            (7, b"c", 1_000_000, 1_000_000, Orient::FS, false),
-            (8, b":", 1_000_000, 2_000_000, Orient::W, false),
-            (9, b"d", 1_000_000, 1_000_000, Orient::E, false),
-            (10, b"d", 1_000_000, 1_000_000, Orient::S, false),
-            (11, b"d", 1_000_000, 1_000_000, Orient::FN, false),
-            (12, b"d", 1_000_000, 1_000_000, Orient::FE, false),
-            (13, b"d", 1_000_000, 1_000_000, Orient::FW, false),
+            (3, b"a", 1_500_000, -2_000_000, Orient::N, MOVABLE),
+            (4, b"b", 3_000_000, 4_000_000, Orient::N, FIXED),
+            (6, b"r", 10_000_000, 5_000_000, Orient::N, FIXED),
+            (7, b"c", 1_000_000, 1_000_000, Orient::FS, MOVABLE),
+            (8, b":", 1_000_000, 2_000_000, Orient::W, MOVABLE),
+            (9, b"d", 1_000_000, 1_000_000, Orient::E, MOVABLE),
+            (10, b"d", 1_000_000, 1_000_000, Orient::S, MOVABLE),
+            (11, b"d", 1_000_000, 1_000_000, Orient::FN, MOVABLE),
+            (12, b"d", 1_000_000, 1_000_000, Orient::FE, MOVABLE),
+            (13, b"d", 1_000_000, 1_000_000, Orient::FW, MOVABLE),
+        ],
+    ),
+    (
+        b"UCLA pl 1.0\nl 0 5 /FIXED_NI\nm 14 0 : FS /fixed_Ni\nn 6 0 /FIXED\n",
+        &[
+            (2, b"l", 0, 5_000_000, Orient::N, FIXED_NI),
+            (3, b"m", 14_000_000, 0, Orient::FS, FIXED_NI),
+            (4, b"n", 6_000_000, 0, Orient::N, FIXED),
         ],
     ),
 ];
 
 fn are_places(lines: &[PlaceLine<'_>], rows: &[PlaceRow]) -> bool {
-    for (line, (number, name, x, y, orient, fixed)) in lines.iter().zip(rows) {
+    for (line, (number, name, x, y, orient, marked)) in lines.iter().zip(rows) {
         let is_placed = (line.x, line.y, line.orient) == (Micro(*x), Micro(*y), *orient);
-        let is_marked = (line.line, line.fixed) == (*number, *fixed);
+        let is_marked = (line.fixed, line.overlap) == *marked && line.line == *number;
         if !(is_placed && is_marked && is_same(line.name.0, name)) {
             return false;
         }
@@ -272,14 +301,15 @@ fn placement_files_are_read(rt: HostRuntime) {
     }
 }
 
-const FAULTY_PLACES: [Faulty; 20] = [
+const FAULTY_PLACES: [Faulty; 22] = [
     (b"", 1, TextKind::BadHeader),
     (b"\n", 2, TextKind::BadHeader),
     (b"UCLA scl 1.0\n", 1, TextKind::BadHeader),
     (b"UCLA pl\n1.0\n", 1, TextKind::BadHeader),
     (b"UCLA pl 1.0\nl 0\n", 2, TextKind::BadLine),
     (b"UCLA pl 1.0\nl 0 5 : N /FIXED x\n", 2, TextKind::BadLine),
-    (b"UCLA pl 1.0\nl 0 5 : N /FIXED_NI\n", 2, TextKind::BadLine),
+    (b"UCLA pl 1.0\nl 0 5 : N /FIXED_N\n", 2, TextKind::BadLine),
+    (b"UCLA pl 1.0\nl 0 5 terminal_NI\n", 2, TextKind::BadLine),
     (b"UCLA pl 1.0\nl 0 5 :\n", 2, TextKind::BadLine),
     (b"UCLA pl 1.0\nl 0 5 N\n", 2, TextKind::BadLine),
     (b"UCLA pl 1.0\nl 0 5 N :\n", 2, TextKind::BadLine),
@@ -288,7 +318,12 @@ const FAULTY_PLACES: [Faulty; 20] = [
     (b"UCLA pl 1.0\nl 0 5 : /FIXED N\n", 2, TextKind::BadLine),
     (b"UCLA pl 1.0\nl 0 5 ; N /FIXED\n", 2, TextKind::BadLine),
     (b"UCLA pl 1.0\nl x y : X\n", 2, TextKind::BadLine),
-    (b"UCLA pl 1.0\nl x y : N /FIXED_NI\n", 2, TextKind::BadLine),
+    (b"UCLA pl 1.0\nl x y : N /FIXED_N\n", 2, TextKind::BadLine),
+    (
+        b"UCLA pl 1.0\nl x y : N /FIXED_NI\n",
+        2,
+        TextKind::BadNumber,
+    ),
     (b"UCLA pl 1.0\nr 1e7 5 : N /FIXED\n", 2, TextKind::BadNumber),
     (b"UCLA pl 1.0\nl 0 : : N\n", 2, TextKind::BadNumber),
     (

@@ -4,20 +4,20 @@ use Rattle.book_text.specs.Lines.{NumberedLine}
 use Rattle.book_files.specs.declared.fault.TextKind.{TextKind}
 use Rattle.book_files.specs.declared.fault.TextKind.TheVariants.{BadHeader, BadLine, CountMismatch}
 use Rattle.book_files.specs.Forms.Form.{Form}
-use Rattle.book_files.specs.Words.{latest, is_header, is_keyed, is_keyword}
-use Rattle.book_files.specs.Forms.Words.{◌>>=◌, count_of, size_of}
+use Rattle.book_files.specs.Words.{latest, is_header, is_keyed}
+use Rattle.book_files.specs.Forms.Words.{◌>>=◌, count_of, size_of, marked}
 use Rattle.book_files.specs.Entries.{NodeEntry}
-use Rattle.book_files.specs.Nodes.{NodeItem, total_in, terminals_in, node_in}
+use Rattle.book_files.specs.Nodes.{NodeItem, node_mark, total_in, terminals_in, node_in}
 use Rattle.book_files.specs.Nodes.NodeItem.{header, total, terminals, node}
 
 -- a node with its sizes, tested from left to right
-abbrev pub sized : ℕ → List ℕ → List ℕ → List ℕ → Bool → Result NodeItem TextKind
-sized number name width height fixed = size_of width >>= λ w. size_of height >>= λ h. Ok (node (record { line = number; name = name; width = w; height = h; fixed = fixed }))
+abbrev pub sized : ℕ → List ℕ → List ℕ → List ℕ → Bool → Bool → Result NodeItem TextKind
+sized number name width height fixed overlap = size_of width >>= λ w. size_of height >>= λ h. Ok (node (record { line = number; name = name; width = w; height = h; fixed = fixed; overlap = overlap }))
 
--- a node line: three words, or four of which the last is `terminal`
+-- a node line: three words, or four of which the last is a mark
 abbrev pub node_of : ℕ → List (List ℕ) → Result NodeItem TextKind
-node_of number (name ∷ width ∷ height ∷ []) = sized number name width height false
-node_of number (name ∷ width ∷ height ∷ mark ∷ []) = if is_keyword (codes "terminal") mark then sized number name width height true else Err BadLine
+node_of number (name ∷ width ∷ height ∷ []) = sized number name width height false false
+node_of number (name ∷ width ∷ height ∷ mark ∷ []) = marked (node_mark mark) (sized number name width height true)
 node_of number [] = Err BadLine
 node_of number (name ∷ []) = Err BadLine
 node_of number (name ∷ width ∷ []) = Err BadLine

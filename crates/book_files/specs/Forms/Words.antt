@@ -1,5 +1,5 @@
--- Keywords, numbers and count lines.
-use Rattle.std.specs.Prelude.{ℕ, Bool, List, [], ◌∷◌, ℤ, pos, int_lt, Result, Ok, Err, if◌then◌else◌}
+-- Keywords, numbers, marks and count lines.
+use Rattle.std.specs.Prelude.{ℕ, Bool, List, [], ◌∷◌, ℤ, pos, int_lt, Option, Some, None, Result, Ok, Err, if◌then◌else◌}
 use Rattle.book_text.specs.declared.number.NumberFault.{NumberFault}
 use Rattle.book_text.specs.Whole.{whole_value}
 use Rattle.book_text.specs.Decimal.{micro_value}
@@ -30,6 +30,11 @@ unless_negative value = if int_lt value (pos 0) then Err BadNumber else Ok value
 -- a number that isn't negative
 abbrev pub size_of : List ℕ → Result ℤ TextKind
 size_of word = number_of word >>= unless_negative
+
+-- goes on with whether a mark allows overlap, where the word is a mark
+abbrev pub marked : {A : Type 0} → Option Bool → (Bool → Result A TextKind) → Result A TextKind
+marked (Some overlap) make = make overlap
+marked None make = Err BadLine
 
 -- A keyed line is a count line: three words, of which the last is a whole word. It may stand once, whatever its number is.
 abbrev pub count_of : Bool → List (List ℕ) → Result ℕ TextKind
