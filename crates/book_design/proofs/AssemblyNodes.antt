@@ -1,6 +1,6 @@
 -- What holds of the nodes, nets and subrows of files without a fault.
 use Rattle.std.proofs.Common.{◌≡◌, ◌≢◌, ℕ, ◌+◌, ◌*◌, ◌/◌, ◌%◌, ◌<◌, ◌≤◌, Bool, true, false, cond, List, [], ◌∷◌, ◌++◌, length, map, get_or, Option, Some, None, refl, sym, ap, ◌∙◌, subst, ⊎_elim, arith, suc, ℤ, pos, negsuc, ◌≤ℤ◌}
-use Rattle.std.specs.Prelude.{unwrap_or, nat_le, nat_abs, IfSome, flat_map, ◌==◌}
+use Rattle.std.specs.Prelude.{unwrap_or, ◌||◌, nat_le, nat_abs, IfSome, flat_map, ◌==◌}
 use Rattle.std.specs.List.{AllByRecursion, filter, sum_by}
 use Rattle.std.specs.Str.{bytes_eq}
 use Rattle.std.proofs.lemmas.Bool.{cases_lt}
@@ -11,7 +11,7 @@ use Rattle.std.proofs.lemmas.List.Concat.{length-flat_map}
 use Rattle.std.proofs.lemmas.Int.{ints, by_lt_z}
 use Rattle.book_files.specs.Words.{last_of}
 use Rattle.book_files.specs.Entries.{NodeEntry, PlaceEntry, PinEntry, NetEntry}
-use Rattle.book_files.specs.Ranges.{IsInRange, IsNodeInRange, IsPlaceInRange, IsPinInRange, IsNetInRange}
+use Rattle.book_files.specs.Ranges.{IsInRange, IsMarkedWell, IsNodeInRange, IsPlaceInRange, IsPinInRange, IsNetInRange}
 use Rattle.book_design.specs.declared.rules.TheConstants.{MOST_PINS, MOST_NET_WEIGHT}
 use Rattle.book_design.specs.Records.{Records, node_at, pin_lines, row_at, last_place}
 use Rattle.book_design.specs.Values.{NodeValue, NetValue}
@@ -45,9 +45,25 @@ filter_all P p (x ∷ xs) h = by (p x) (filter_all P p xs h.1) where
 origin : IsInRange (pos 0)
 origin = record { low = omega (arith, ints); high = omega (arith, ints) }
 
+-- where each of two lines allows overlap of a fixed node alone, so do both
+both_marked : (fixed overlap fixed' overlap' : Bool) → IsMarkedWell fixed overlap → IsMarkedWell fixed' overlap' → IsMarkedWell (fixed || fixed') (overlap || overlap')
+both_marked true overlap fixed' overlap' marks marks' = λ _. refl
+both_marked false true fixed' overlap' marks marks' = let e = marks refl in cc
+both_marked false false fixed' overlap' marks marks' = marks'
+
 placed_good : (height : ℤ) (node : NodeEntry) (place : Option PlaceEntry) → IsNodeInRange node → IfSome place IsPlaceInRange → ((placed node place).fixed ≡ false → node.height ≤ℤ height) → IsGoodNode height (placed node place)
-placed_good height node None r h low = record { name = r.name; width = r.width; height = r.height; width_sign = r.width_sign; height_sign = r.height_sign; x = origin; y = origin; low = low }
-placed_good height node (Some place) r h low = record { name = r.name; width = r.width; height = r.height; width_sign = r.width_sign; height_sign = r.height_sign; x = h.x; y = h.y; low = low }
+placed_good height node None r h low = record { name = r.name; width = r.width; height = r.height; width_sign = r.width_sign; height_sign = r.height_sign; x = origin; y = origin; low = low; marks = r.marks }
+placed_good height node (Some place) r h low = record {
+  name = r.name;
+  width = r.width;
+  height = r.height;
+  width_sign = r.width_sign;
+  height_sign = r.height_sign;
+  x = h.x;
+  y = h.y;
+  low = low;
+  marks = both_marked node.fixed node.overlap place.fixed place.overlap r.marks h.marks;
+}
 
 placed_name : (node : NodeEntry) (place : Option PlaceEntry) → (placed node place).name ≡ node.name
 placed_name node None = refl
@@ -57,7 +73,7 @@ pub node_is : (records : Records) (i : ℕ) (d : NodeValue) → i < length recor
 node_is records i d there = get_or-map (joined_node records) records.nodes i _ d there
 
 abbrev no_value : NodeValue
-no_value = record { name = []; width = pos 0; height = pos 0; x = pos 0; y = pos 0; orient = N; fixed = true }
+no_value = record { name = []; width = pos 0; height = pos 0; x = pos 0; y = pos 0; orient = N; fixed = true; overlap = false }
 
 named : (records : Records) (k : ℕ) → k < length records.nodes → (node_value_at (map (joined_node records) records.nodes) k).name ≡ (node_at records k).name
 named records k there = ap (λ (v : NodeValue). v.name) (node_is records k no_value there) ∙ placed_name (node_at records k) (last_place records (node_at records k).name)

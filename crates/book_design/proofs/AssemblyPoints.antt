@@ -18,7 +18,7 @@ use Rattle.book_design.specs.Forms.Assembly.{ArePoints}
 
 -- the node that a read past the end gives
 abbrev pub no_record : Node
-no_record = record { name = record { 0 = record { ref_ptr = (0, 0); now = [] } }; width = pos 0; height = pos 0; x = pos 0; y = pos 0; orient = N; fixed = false }
+no_record = record { name = record { 0 = record { ref_ptr = (0, 0); now = [] } }; width = pos 0; height = pos 0; x = pos 0; y = pos 0; orient = N; fixed = false; overlap = false }
 
 before_more : (nodes : List NodeValue) (i m : ℕ) (numbers new : List ℕ) → length numbers ≡ i → m ≡ movable_before nodes i → new ≡ numbers ++ m ∷ [] → ((k : ℕ) → k < i → get_or numbers k 0 ≡ movable_before nodes k) → (k : ℕ) → k < i + 1 → get_or new k 0 ≡ movable_before nodes k
 before_more nodes i m numbers new len here e h k below = ⊎_elim

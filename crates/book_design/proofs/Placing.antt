@@ -53,7 +53,7 @@ no_last records name h = ap (last_of {A = PlaceEntry}) (filter-none (λ place. b
 
 -- the line that a read past the end gives
 abbrev pub no_line : NodeLine
-no_line = record { line = 0; name = record { 0 = record { ref_ptr = (0, 0); now = [] } }; width = record { 0 = pos 0 }; height = record { 0 = pos 0 }; fixed = false }
+no_line = record { line = 0; name = record { 0 = record { ref_ptr = (0, 0); now = [] } }; width = record { 0 = pos 0 }; height = record { 0 = pos 0 }; fixed = false; overlap = false }
 
 -- what holds of the first so many nodes, in the loop over them
 pub record ArePlaced (sources : Sources) (i : ℕ) (made : List Node) : Type 0 where

@@ -1,5 +1,5 @@
 -- All records make a design or have a first fault.
-use Rattle.std.proofs.Common.{◌≡◌, ℕ, ◌<◌, ◌≤◌, ◌⊎◌, inl, inr, ℤ, ◌<ℤ◌, ◌≤ℤ◌, ◌+ℤ◌, true, false, List, length, map, refl, sym, subst, ⊎_elim, arith, zero, suc}
+use Rattle.std.proofs.Common.{◌≡◌, ℕ, ◌<◌, ◌⊎◌, inl, inr, ℤ, ◌<ℤ◌, ◌≤ℤ◌, ◌+ℤ◌, true, false, List, length, map, refl, sym, subst, ⊎_elim, arith, zero, suc}
 use Rattle.std.proofs.lemmas.Bool.{cases_lt, cases_eq}
 use Rattle.std.proofs.lemmas.Int.{ints, by_lt_z}
 use Rattle.book_files.specs.declared.records.FileKind.TheVariants.{Nets, Pl}

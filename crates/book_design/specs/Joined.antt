@@ -10,17 +10,18 @@ use Rattle.book_design.specs.Records.{Records, Strip, last_place, last_weight, r
 use Rattle.book_design.specs.Values.{NodeValue, NetValue, DesignValue}
 
 abbrev pub place_at : Records → ℕ → PlaceEntry
-place_at records i = slice_index_or records.places i (record { line = 0; name = []; x = pos 0; y = pos 0; orient = N; fixed = false })
+place_at records i = slice_index_or records.places i (record { line = 0; name = []; x = pos 0; y = pos 0; orient = N; fixed = false; overlap = false })
 
 -- a node with the place that the placement file gives it last: without one it stands at (0, 0) and isn't turned
 abbrev pub placed : NodeEntry → Option PlaceEntry → NodeValue
-placed node None = record { name = node.name; width = node.width; height = node.height; x = pos 0; y = pos 0; orient = N; fixed = node.fixed }
-placed node (Some place) = record { name = node.name; width = node.width; height = node.height; x = place.x; y = place.y; orient = place.orient; fixed = node.fixed || place.fixed }
+placed node None = record { name = node.name; width = node.width; height = node.height; x = pos 0; y = pos 0; orient = N; fixed = node.fixed; overlap = node.overlap }
+placed node (Some place) = record { name = node.name; width = node.width; height = node.height; x = place.x; y = place.y; orient = place.orient; fixed = node.fixed || place.fixed; overlap = node.overlap || place.overlap }
 
 abbrev pub joined_node : Records → NodeEntry → NodeValue
 joined_node records node = placed node (last_place records node.name)
 
--- A node is fixed where its line marks it as a terminal, or the last line of its name in the placement file marks it.
+-- A node is fixed where its line marks it as a terminal, or the last line of its name in the placement file marks it. It allows
+-- overlap where one of the two says so.
 abbrev pub is_fixed : Records → NodeEntry → Bool
 is_fixed records node = (joined_node records node).fixed
 

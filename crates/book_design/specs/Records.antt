@@ -31,7 +31,7 @@ pin_lines records = flat_map (λ net. net.pins) records.nets
 
 -- Past the end of a list stand lines without a name, a place or a size.
 abbrev pub node_at : Records → ℕ → NodeEntry
-node_at records i = slice_index_or records.nodes i (record { line = 0; name = []; width = pos 0; height = pos 0; fixed = false })
+node_at records i = slice_index_or records.nodes i (record { line = 0; name = []; width = pos 0; height = pos 0; fixed = false; overlap = false })
 
 abbrev pub net_at : Records → ℕ → NetEntry
 net_at records i = slice_index_or records.nets i (record { name = None; pins = [] })

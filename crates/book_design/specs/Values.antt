@@ -15,6 +15,7 @@ pub record NodeValue : Type 0 where
   pub y : ℤ
   pub orient : Orient
   pub fixed : Bool
+  pub overlap : Bool
 
 -- a net: its weight, and its pins with the numbers of their nodes
 pub record NetValue : Type 0 where
@@ -30,7 +31,7 @@ pub record DesignValue : Type 0 where
   pub row_height : ℤ
 
 abbrev pub node_value : Node → NodeValue
-node_value n = record { name = n.name.0.now; width = n.width; height = n.height; x = n.x; y = n.y; orient = n.orient; fixed = n.fixed }
+node_value n = record { name = n.name.0.now; width = n.width; height = n.height; x = n.x; y = n.y; orient = n.orient; fixed = n.fixed; overlap = n.overlap }
 
 abbrev pub node_values : List Node → List NodeValue
 node_values nodes = map node_value nodes

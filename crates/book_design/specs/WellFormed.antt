@@ -1,7 +1,7 @@
 -- What holds of every joined design.
 use Rattle.std.specs.Prelude.{◌≡◌, ◌⊎◌, ℕ, ◌^◌, ◌<◌, ◌≤◌, false, List, length, slice_index_or, ℤ, pos, ◌≤ℤ◌, ◌+ℤ◌, ◌*ℤ◌, ◌≢◌}
 use Rattle.std.specs.List.{AllByRecursion, sum_by}
-use Rattle.book_files.specs.Ranges.{IsInRange, IsName}
+use Rattle.book_files.specs.Ranges.{IsInRange, IsName, IsMarkedWell}
 use Rattle.book_design.specs.declared.rules.TheConstants.{MOST_NODES, MOST_PINS, MOST_SUBROWS, MOST_SITES, MOST_NET_WEIGHT, ROWS_END}
 use Rattle.book_design.specs.declared.parts.Pin.{Pin}
 use Rattle.book_design.specs.declared.parts.Subrow.{Subrow}
@@ -9,7 +9,7 @@ use Rattle.book_design.specs.declared.parts.Core.{Core}
 use Rattle.book_design.specs.Values.{NodeValue, NetValue, DesignValue}
 use Rattle.book_design.specs.Points.{node_value_at}
 
--- a node's numbers are in range, and a movable one is no higher than a row
+-- a node's numbers are in range, a movable one is no higher than a row, and only a fixed one allows overlap
 pub record IsGoodNode (row_height : ℤ) (node : NodeValue) : Type 0 where
   pub name : IsName node.name
   pub width : IsInRange node.width
@@ -19,6 +19,7 @@ pub record IsGoodNode (row_height : ℤ) (node : NodeValue) : Type 0 where
   pub x : IsInRange node.x
   pub y : IsInRange node.y
   pub low : node.fixed ≡ false → node.height ≤ℤ row_height
+  pub marks : IsMarkedWell node.fixed node.overlap
 
 -- a pin's node is there, and its offset is in range
 pub record IsGoodPin (nodes : ℕ) (pin : Pin) : Type 0 where

@@ -104,6 +104,7 @@ fn placed_node<'a>(line: &NodeLine<'a>, place: Option<PlaceLine<'a>>) -> Node<'a
             y: place.y.0,
             orient: place.orient,
             fixed: line.fixed || place.fixed,
+            overlap: line.overlap || place.overlap,
         },
         None => Node {
             name,
@@ -113,6 +114,7 @@ fn placed_node<'a>(line: &NodeLine<'a>, place: Option<PlaceLine<'a>>) -> Node<'a
             y: 0,
             orient: Orient::N,
             fixed: line.fixed,
+            overlap: line.overlap,
         },
     }
 }

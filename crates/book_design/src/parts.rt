@@ -13,6 +13,8 @@ pub struct Node<'a> {
     pub orient: Orient,
     /// Whether it is a terminal, or marked as fixed by that line.
     pub fixed: bool,
+    /// Whether it is fixed, and cells may stand over it: its line marks it so (`terminal_NI`), or that line does (`/FIXED_NI`).
+    pub overlap: bool,
 }
 
 /// A pin: the number of its node, and its offset in millionths from the node's centre.

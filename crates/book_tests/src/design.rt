@@ -279,6 +279,78 @@ fn nodes_are_joined_alone(rt: HostRuntime) -> Result<(), Fail> {
     Ok(())
 }
 
+/// A node's lines in the files of nodes and of places, and whether it is fixed, and allows overlap.
+type Marked = (&'static [u8], &'static [u8], (bool, bool));
+
+const MARKED: &[Marked] = &[
+    (
+        b"UCLA nodes 1.0\nNumNodes : 1\na 2 10\n",
+        b"UCLA pl 1.0\na 0 0\n",
+        (false, false),
+    ),
+    (
+        b"UCLA nodes 1.0\nNumNodes : 1\na 2 10 terminal_NI\n",
+        b"UCLA pl 1.0\na 0 0\n",
+        (true, true),
+    ),
+    (
+        b"UCLA nodes 1.0\nNumNodes : 1\na 2 10\n",
+        b"UCLA pl 1.0\na 0 0 /FIXED_NI\n",
+        (true, true),
+    ),
+    (
+        b"UCLA nodes 1.0\nNumNodes : 1\na 2 10 terminal\n",
+        b"UCLA pl 1.0\na 0 0 /FIXED_NI\n",
+        (true, true),
+    ),
+    (
+        b"UCLA nodes 1.0\nNumNodes : 1\na 2 10 terminal_NI\n",
+        b"UCLA pl 1.0\na 0 0 /FIXED\n",
+        (true, true),
+    ),
+    (
+        b"UCLA nodes 1.0\nNumNodes : 1\na 2 10 terminal\n",
+        b"UCLA pl 1.0\na 0 0 /FIXED\n",
+        (true, false),
+    ),
+    // the last line of a name counts
+    (
+        b"UCLA nodes 1.0\nNumNodes : 1\na 2 10\n",
+        b"UCLA pl 1.0\na 0 0 /FIXED_NI\na 0 0 /FIXED\n",
+        (true, false),
+    ),
+    (
+        b"UCLA nodes 1.0\nNumNodes : 1\na 2 10\n",
+        b"UCLA pl 1.0\na 0 0 /FIXED_NI\na 0 0\n",
+        (false, false),
+    ),
+];
+
+fn is_alone_marked(nodes: &[Node<'_>], marked: (bool, bool)) -> bool {
+    match nodes {
+        [node] => (node.fixed, node.overlap) == marked,
+        _ => false,
+    }
+}
+
+#[test]
+fn nodes_are_marked_by_either_line(rt: HostRuntime) -> Result<(), Fail> {
+    for (nodes_text, pl_text, marked) in MARKED {
+        let Ok(nodes) = read_nodes(rt.alloc(), nodes_text) else {
+            panic!(rt; "{nodes_text:?} isn't read");
+        };
+        let Ok(pl) = read_pl(rt.alloc(), pl_text) else {
+            panic!(rt; "{pl_text:?} isn't read");
+        };
+        let joined = joined_nodes(rt.alloc(), &nodes, &pl)?;
+        assert!(rt;
+            is_alone_marked(&joined, *marked),
+            "{nodes_text:?} {pl_text:?}"
+        );
+    }
+    Ok(())
+}
+
 /// Texts without a fault, the weights of the two nets, and where node 0 stands, how, and whether it is fixed.
 type Accepted = (Texts<'static>, [u32; 2], i64, i64, Orient, bool);
 

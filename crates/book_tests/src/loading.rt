@@ -68,6 +68,7 @@ const WRITTEN: &[(&[PlaceLine<'static>], &[u8])] = &[
                 y: Micro(12_000_000),
                 orient: Orient::N,
                 fixed: false,
+                overlap: false,
             },
             PlaceLine {
                 line: 0,
@@ -76,9 +77,19 @@ const WRITTEN: &[(&[PlaceLine<'static>], &[u8])] = &[
                 y: Micro(0),
                 orient: Orient::FS,
                 fixed: true,
+                overlap: false,
+            },
+            PlaceLine {
+                line: 0,
+                name: Name(b"n"),
+                x: Micro(0),
+                y: Micro(0),
+                orient: Orient::W,
+                fixed: true,
+                overlap: true,
             },
         ],
-        b"UCLA pl 1.0\nu -0.5 12 : N\nm:1 14.000001 0 : FS /FIXED\n",
+        b"UCLA pl 1.0\nu -0.5 12 : N\nm:1 14.000001 0 : FS /FIXED\nn 0 0 : W /FIXED_NI\n",
     ),
 ];
 
