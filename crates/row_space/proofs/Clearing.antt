@@ -18,7 +18,7 @@ use Rattle.book_design.specs.Points.{node_value_at}
 use Rattle.book_design.specs.WellFormed.{IsDesign, subrow_at}
 use Rattle.row_space.specs.declared.parts.Segment.{Segment}
 use Rattle.row_space.specs.Values.{segment_at}
-use Rattle.row_space.specs.Rectangles.{Rectangle, share_area, node_rectangle, sites_rectangle, segment_rectangle, blocks}
+use Rattle.row_space.specs.Rectangles.{Rectangle, share_area, node_rectangle, sites_rectangle, segment_rectangle, forbids_overlap, blocks}
 use Rattle.row_space.specs.Runs.{is_free, begins, run_len, segment_from, segments_in, segments_of}
 use Rattle.row_space.specs.Clear.{IsClear, AreClear}
 use Rattle.row_space.proofs.Spans.{Narrower, narrower}
@@ -132,18 +132,18 @@ whole_clear design subrow node from (suc n) valid each = by_rest (whole_clear de
   by_rest : blocks node (sites_rectangle design subrow from n) ≡ false → blocks node (sites_rectangle design subrow from (suc n)) ≡ false
   by_rest rest = no_by (blocks node (sites_rectangle design subrow from (suc n))) (λ holds.
       let m = meet_of node (sites_rectangle design subrow from (suc n)) holds in
-      let fixed = (and_parts node.fixed (share_area (node_rectangle node) (sites_rectangle design subrow from (suc n))) holds).0 in
+      let forbids = (and_parts (forbids_overlap node) (share_area (node_rectangle node) (sites_rectangle design subrow from (suc n))) holds).0 in
       let end : (pos (from + suc n) *ℤ design.pitch) ≡ pos ((from + n) + 1) *ℤ design.pitch = ap (λ n. pos n *ℤ design.pitch) (omega arith) in
       let start = narrower design.pitch from (from + n) valid.pitch_sign (omega arith) in
       let last : blocks node (sites_rectangle design subrow (from + n) 1) ≡ false = each (from + n) (omega arith) (omega arith) in
-      by_lt (node_rectangle node) (subrow.x +ℤ pos (from + n) *ℤ design.pitch) m fixed end start rest last) where
-        by_lt : (a : Rectangle) (mid : ℤ) → Meet (node_rectangle node) (sites_rectangle design subrow from (suc n)) → node.fixed ≡ true
+      by_lt (node_rectangle node) (subrow.x +ℤ pos (from + n) *ℤ design.pitch) m forbids end start rest last) where
+        by_lt : (a : Rectangle) (mid : ℤ) → Meet (node_rectangle node) (sites_rectangle design subrow from (suc n)) → forbids_overlap node ≡ true
             → (pos (from + suc n) *ℤ design.pitch) ≡ pos ((from + n) + 1) *ℤ design.pitch → Narrower design.pitch from (from + n)
             → blocks node (sites_rectangle design subrow from n) ≡ false → blocks node (sites_rectangle design subrow (from + n) 1) ≡ false
             → blocks node (sites_rectangle design subrow from (suc n)) ≡ false
-        by_lt a mid m fixed end start rest last = by_lt_z (int_max node.x (subrow.x +ℤ pos from *ℤ design.pitch)) (int_min (node.x +ℤ node.width) (subrow.x +ℤ pos (from + n) *ℤ design.pitch))
-            (λ left. absurd (clash _ (of_meet node (sites_rectangle design subrow from n) fixed (record { columns = left; rows = m.rows })) rest))
-            (λ right. absurd (clash _ (of_meet node (sites_rectangle design subrow (from + n) 1) fixed (record { columns = omega (arith, ints, clamps, right, m.columns, end, start.most); rows = m.rows })) last)) where
+        by_lt a mid m forbids end start rest last = by_lt_z (int_max node.x (subrow.x +ℤ pos from *ℤ design.pitch)) (int_min (node.x +ℤ node.width) (subrow.x +ℤ pos (from + n) *ℤ design.pitch))
+            (λ left. absurd (clash _ (of_meet node (sites_rectangle design subrow from n) forbids (record { columns = left; rows = m.rows })) rest))
+            (λ right. absurd (clash _ (of_meet node (sites_rectangle design subrow (from + n) 1) forbids (record { columns = omega (arith, ints, clamps, right, m.columns, end, start.most); rows = m.rows })) last)) where
               clash : (b : Bool) → b ≡ true → b ≡ false → ⊥
               clash b t f = cc
 

@@ -1,7 +1,7 @@
 -- The marks of a node, tier by tier.
-use Rattle.std.proofs.Common.{◌≡◌, ◌↔◌, ℕ, ◌+◌, ◌-◌, ◌<◌, ◌≤◌, min, Bool, true, false, cond, ltb, List, [], ◌∷◌, ◌++◌, length, refl, sym, ap, ◌∙◌, subst, inl, inr, arith, ◌⊎◌, ℤ, pos, negsuc, ◌+ℤ◌, ◌*ℤ◌, ◌≤ℤ◌, ◌<ℤ◌}
+use Rattle.std.proofs.Common.{◌≡◌, ◌↔◌, ℕ, ◌+◌, ◌-◌, ◌<◌, ◌≤◌, min, Bool, true, false, not, cond, ltb, List, [], ◌∷◌, ◌++◌, length, refl, sym, ap, ◌∙◌, subst, inl, inr, arith, ◌⊎◌, ℤ, pos, negsuc, ◌+ℤ◌, ◌*ℤ◌, ◌≤ℤ◌, ◌<ℤ◌}
 use Rattle.std.proofs.lemmas.Int.{ints, clamps}
-use Rattle.std.proofs.lemmas.Bool.{cases_lt, cases_order, and_parts}
+use Rattle.std.proofs.lemmas.Bool.{cases_lt, cases_order, and_parts, and_from, not-true}
 use Rattle.std.proofs.lemmas.Bool.Decides.{nat_tests}
 use Rattle.std.proofs.lemmas.List.{append-nil, append_assoc, length-append, get_or_append_left, get_or-append_right, get_or_push, length_push, get_or-append-add, get_or_default}
 use Rattle.std.specs.declared.cmp.Ordering.{Ordering}
@@ -18,7 +18,7 @@ use Rattle.book_design.specs.Values.{NodeValue, DesignValue}
 use Rattle.book_design.specs.WellFormed.{subrow_at, IsDesign}
 use Rattle.row_space.specs.declared.marks.Mark.{Mark}
 use Rattle.row_space.specs.declared.tiers.Tier.{Tier}
-use Rattle.row_space.specs.Rectangles.{share_area, node_rectangle, blocks, sites_rectangle}
+use Rattle.row_space.specs.Rectangles.{share_area, node_rectangle, forbids_overlap, blocks, sites_rectangle}
 use Rattle.row_space.specs.Forms.Tiers.{tier_at, AreTiers, IsPassed}
 use Rattle.row_space.specs.Forms.Marks.{mark_at, IsMark, HasMark, AreMarks, IsNoLater, AreSorted, IsMarkOf, AddsWhere, AddsMarks, AddsSubrow, MeetsRow, IsSolid, with_mark}
 use Rattle.row_space.proofs.Spans.{narrower}
@@ -99,6 +99,9 @@ adds_none design node R old none = record {
   all = λ number site is_one inside blocked. absurd (none number site is_one inside blocked);
 }
 
+solid_forbids : (node : NodeValue) → IsSolid node → forbids_overlap node ≡ true
+solid_forbids node solid = and_from _ _ solid.fixed (ap not solid.forbids)
+
 -- one subrow
 pub adds_subrow : (design : DesignValue) (node : NodeValue) (marks new : List Mark) (t first to end : ℕ) → IsDesign design → IsSolid node → t < length design.subrows → MeetsRow design node t
     → ((k : ℕ) → (first ≤ k) ↔ (node.x <ℤ ((subrow_at design.subrows t).x +ℤ pos (k + 1) *ℤ design.pitch)))
@@ -117,7 +120,7 @@ adds_subrow design node marks new t first to end valid solid there row before up
       let left = (before k).0 low in
       let right = (up_to k).0 (omega (arith, lt, ends)) in
       let width : (pos (k + 1) *ℤ design.pitch) ≡ pos k *ℤ design.pitch +ℤ design.pitch = plus design.pitch k in
-      of_meet node (sites_rectangle design subrow k 1) solid.fixed (record {
+      of_meet node (sites_rectangle design subrow k 1) (solid_forbids node solid) (record {
         columns = omega (arith, ints, clamps, left, right, solid.wide, width, valid.pitch_sign);
         rows = omega (arith, ints, clamps, row.below, row.above, solid.high, valid.height_sign);
       }) where
@@ -300,7 +303,8 @@ marks_pass design node marks i are is hollow = record {
         let site = sites_rectangle design (subrow_at design.subrows t) k 1 in
         let blocks_it : blocks node site ≡ true = subst (λ (n : NodeValue). blocks n site ≡ true) (ap (node_value_at design.nodes) here ∙ sym is) blocked in
         let meet = meet_of node site blocks_it in
-        absurd (hollow (record { fixed = (and_parts node.fixed (share_area (node_rectangle node) site) blocks_it).0; wide = omega (arith, ints, clamps, meet.columns); high = omega (arith, ints, clamps, meet.rows) }))
+        let forbids = and_parts node.fixed (not node.overlap) (and_parts (forbids_overlap node) (share_area (node_rectangle node) site) blocks_it).0 in
+        absurd (hollow (record { fixed = forbids.0; forbids = not-true node.overlap forbids.1; wide = omega (arith, ints, clamps, meet.columns); high = omega (arith, ints, clamps, meet.rows) }))
   ];
 }
 

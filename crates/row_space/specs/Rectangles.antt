@@ -1,5 +1,5 @@
 -- Rectangles, and whether two share area.
-use Rattle.std.specs.Prelude.{ℕ, ◌+◌, Bool, ◌&&◌, int_lt, ℤ, pos, ◌+ℤ◌, ◌*ℤ◌}
+use Rattle.std.specs.Prelude.{ℕ, ◌+◌, Bool, not, ◌&&◌, int_lt, ℤ, pos, ◌+ℤ◌, ◌*ℤ◌}
 use Rattle.std.specs.Int.{int_min, int_max}
 use Rattle.book_design.specs.declared.parts.Subrow.{Subrow}
 use Rattle.book_design.specs.Values.{NodeValue, DesignValue}
@@ -35,6 +35,10 @@ segment_rectangle design segment = record {
   upper = segment.y +ℤ design.row_height;
 }
 
--- a fixed node stands in the way of a rectangle with which it shares area
+-- A fixed node that doesn't allow overlap forbids it.
+abbrev pub forbids_overlap : NodeValue → Bool
+forbids_overlap node = node.fixed && not node.overlap
+
+-- such a node stands in the way of a rectangle with which it shares area
 abbrev pub blocks : NodeValue → Rectangle → Bool
-blocks node rectangle = node.fixed && share_area (node_rectangle node) rectangle
+blocks node rectangle = forbids_overlap node && share_area (node_rectangle node) rectangle

@@ -1,4 +1,4 @@
-//! The sites that fixed nodes take.
+//! The sites that fixed nodes take. One that allows overlap takes none.
 
 ghost use Rattle.std.specs.Prelude.{◌≡◌, ◌<◌, ◌≤◌, ◌+◌, ◌*◌, ◌↔◌, ℕ, length, IfOk, OnOk, MatchBool, pos, neg_ℤ, ◌≤ℤ◌, ◌<ℤ◌, ◌+ℤ◌, ◌*ℤ◌};
 ghost use Rattle.book_text.specs.declared.decimal.TheConstants.{MOST_MICRO};
@@ -37,11 +37,11 @@ pub(crate) fn marks(alloc: Global, design: &Design<'_>) -> Result<Vec<Mark>, All
     Ok(marks)
 }
 
-/// Whether a node can take sites: it is fixed, and has area.
+/// Whether a node can take sites: it is fixed, forbids overlap, and has area.
 fn is_solid(node: &Node<'_>) -> bool
     ensures { MatchBool result (IsSolid (node_value node.now)) (IsSolid (node_value node.now) → ⊥) }
 {
-    node.fixed && node.width > 0 && node.height > 0
+    node.fixed && !node.overlap && node.width > 0 && node.height > 0
 }
 
 /// Adds what a node takes of each subrow that it meets. In each row that its height meets it goes at once to the first

@@ -62,12 +62,25 @@ const THREE_SITES: Case = Case {
 /// All sites of the one row.
 const WHOLE: &[(i64, i64, u32)] = &[(0, 0, 10)];
 
-const CASES: [Case; 14] = [
+const CASES: [Case; 16] = [
     THREE_SITES,
     // a movable node takes none
     Case {
         pl: b"UCLA pl 1.0\nm 3 0 : N\n",
         segments: WHOLE,
+        ..THREE_SITES
+    },
+    // nor does a fixed one that allows overlap, by its place
+    Case {
+        pl: b"UCLA pl 1.0\nm 3 0 : N /FIXED_NI\n",
+        segments: WHOLE,
+        ..THREE_SITES
+    },
+    // nor by its node's line, where one that forbids overlap stands on it
+    Case {
+        nodes: b"UCLA nodes 1.0\nNumNodes : 2\nNumTerminals : 0\nm 3 10 terminal_NI\nn 1 10\n",
+        pl: b"UCLA pl 1.0\nm 3 0 : N /FIXED\nn 4 0 : N /FIXED\n",
+        segments: &[(0, 0, 4), (5_000_000, 0, 5)],
         ..THREE_SITES
     },
     // the row's upper edge and the macro's lower one only touch

@@ -1,5 +1,5 @@
 -- The sites that fixed nodes take, as the code keeps them.
-use Rattle.std.specs.Prelude.{◌≡◌, ◌⊎◌, ℕ, ◌<◌, ◌≤◌, true, nat_lt, if◌then◌else◌, List, [], ◌∷◌, ◌++◌, length, slice_index_or, pos, ◌+ℤ◌, ◌<ℤ◌}
+use Rattle.std.specs.Prelude.{◌≡◌, ◌⊎◌, ℕ, ◌<◌, ◌≤◌, true, false, nat_lt, if◌then◌else◌, List, [], ◌∷◌, ◌++◌, length, slice_index_or, pos, ◌+ℤ◌, ◌<ℤ◌}
 use Rattle.book_design.specs.Values.{NodeValue, DesignValue}
 use Rattle.book_design.specs.Points.{node_value_at}
 use Rattle.book_design.specs.WellFormed.{subrow_at}
@@ -76,8 +76,9 @@ pub record MeetsRow (design : DesignValue) (node : NodeValue) (number : ℕ) : T
 abbrev pub with_mark : List Mark → ℕ → ℕ → ℕ → List Mark
 with_mark marks subrow first end = if nat_lt first end then marks ++ record { subrow = subrow; first = first; end = end } ∷ [] else marks
 
--- the node is fixed, and has area
+-- the node is fixed, forbids overlap, and has area
 pub record IsSolid (node : NodeValue) : Type 0 where
   pub fixed : node.fixed ≡ true
+  pub forbids : node.overlap ≡ false
   pub wide : pos 0 <ℤ node.width
   pub high : pos 0 <ℤ node.height

@@ -1,5 +1,5 @@
 use Rattle.std.proofs.Common.{◌≡◌, ℕ, ◌<◌, ◌≤◌, List, [], length, ℤ, ◌+ℤ◌, ◌-ℤ◌, ◌≤ℤ◌, ◌<ℤ◌, w64, to_z, of_z, true, false, sym, subst, inl, inr, arith}
-use Rattle.std.specs.Prelude.{int_lt, int_le}
+use Rattle.std.specs.Prelude.{int_lt, int_le, FitsSigned}
 use Rattle.std.proofs.lemmas.Int.{ints}
 use Rattle.std.proofs.lemmas.Bool.{cases_lt}
 use Rattle.std.proofs.lemmas.List.Elements.{All-from_recursion}
@@ -20,6 +20,12 @@ not_lt_by a b x y p q h = let less : b ≤ℤ a = grind (arith, ints) in omega (
 
 le_by : (a b x y : ℤ) → a ≡ x → b ≡ y → int_le a b ≡ true → x ≤ℤ y
 le_by a b x y p q h = let less : a ≤ℤ b = grind (arith, ints) in omega (arith, ints)
+
+sum_fits : (a b : ℤ) → IsInRange a → IsInRange b → FitsSigned w64 (to_z w64 (of_z w64 a) +ℤ to_z w64 (of_z w64 b))
+sum_fits a b a_in b_in =
+    let first : to_z w64 (of_z w64 a) ≡ a = omega (arith, ints, a_in.low, a_in.high) in
+    let second : to_z w64 (of_z w64 b) ≡ b = omega (arith, ints, b_in.low, b_in.high) in
+    rw (first, second) (omega (arith, ints, a_in.low, a_in.high, b_in.low, b_in.high))
 
 -- what the code reads of a tier
 record IsRead (tier : Tier) : Type 0 where
@@ -167,3 +173,6 @@ returns-else-tiers-at c =
 pub returns-after-tiers : goal.returns-after-tiers
 returns-after-tiers c =
     marking_all c.args.design.now (node_value c.args.node.now) c.args.tiers.now c.args.marks.now.items c.tiers.marks.items c.tiers.at c.requires.tiers c.tiers.invariant (λ lt. absurd (omega (arith, c.tiers-test.false)))
+
+pub overflow_add-node-else-tier-node : goal.overflow_add-node-else-tier-node
+overflow_add-node-else-tier-node c = sum_fits c.args.node.now.x c.args.node.now.width c.requires.node.x c.requires.node.width

@@ -13,7 +13,7 @@ use Rattle.row_space.proofs.marks.marks.Goals.{then-is_solid+in_ok-mark_node, el
 
 -- what the code reads past the end
 abbrev no_node : Node
-no_node = record { name = record { 0 = record { ref_ptr = (0, 0); now = [] } }; width = pos 0; height = pos 0; x = pos 0; y = pos 0; orient = N; fixed = false }
+no_node = record { name = record { 0 = record { ref_ptr = (0, 0); now = [] } }; width = pos 0; height = pos 0; x = pos 0; y = pos 0; orient = N; fixed = false; overlap = false }
 
 node_is : (nodes : List Node) (values : List NodeValue) (i : ℕ) (d : Node) → node_values nodes ≡ values → i < length nodes → node_value (get_or nodes i d) ≡ node_value_at values i
 node_is nodes values i d is lt = sym (get_or-map node_value nodes i d (node_value_at [] 0) lt) ∙ ap (λ (vs : List NodeValue). node_value_at vs i) is
