@@ -1,11 +1,11 @@
 -- Places that are apart, in segments that are clear, are legal.
-use Rattle.std.proofs.Common.{◌≡◌, ◌≢◌, ℕ, ◌+◌, ◌*◌, ◌<◌, ◌≤◌, Bool, true, false, cond, List, [], refl, sym, ap, ◌∙◌, subst, inl, inr, arith, ℤ, pos, negsuc, ◌+ℤ◌, ◌*ℤ◌, ◌≤ℤ◌, ◌<ℤ◌}
-use Rattle.std.specs.Prelude.{int_lt, ◌&&◌}
-use Rattle.std.specs.Int.{int_max, int_min, div_ceil}
+use Rattle.std.proofs.Common.{◌≡◌, ◌≢◌, ℕ, ◌+◌, ◌*◌, ◌<◌, ◌≤◌, Bool, true, false, cond, List, [], refl, sym, ap, ◌∙◌, subst, inl, inr, arith, ℤ, pos, negsuc, ◌+ℤ◌, ◌*ℤ◌, ◌≤ℤ◌}
+use Rattle.std.specs.Prelude.{◌&&◌}
+use Rattle.std.specs.Int.{div_ceil}
 use Rattle.std.specs.List.{count_by}
 use Rattle.std.proofs.Math.Nat.{mul-le-mul_right}
 use Rattle.std.proofs.lemmas.Int.{ints, clamps}
-use Rattle.std.proofs.lemmas.Bool.{both_ways, not-true, cases_order, and_parts, false_from_ne_true}
+use Rattle.std.proofs.lemmas.Bool.{both_ways, not-true, cases_order, false_from_ne_true}
 use Rattle.std.proofs.lemmas.Grind.{div_ceil_times}
 use Rattle.std.proofs.lemmas.List.{get_or-map, length-map}
 use Rattle.std.proofs.lemmas.List.Sums.{sum_by_more_le}
@@ -15,7 +15,7 @@ use Rattle.book_design.specs.Points.{is_movable, node_value_at, IsNodeOf, site_c
 use Rattle.book_design.specs.WellFormed.{IsDesign, IsGoodNode, subrow_at}
 use Rattle.row_space.specs.declared.parts.Segment.{Segment}
 use Rattle.row_space.specs.Values.{segment_at}
-use Rattle.row_space.specs.Rectangles.{Rectangle, share_area, node_rectangle, segment_rectangle, blocks}
+use Rattle.row_space.specs.Rectangles.{Rectangle, share_area, node_rectangle, segment_rectangle, forbids_overlap, blocks}
 use Rattle.row_space.specs.Runs.{segments_of}
 use Rattle.row_space.specs.Clear.{AreClear}
 use Rattle.row_space.proofs.Meeting.{Meet, shares, of_shares}
@@ -130,10 +130,10 @@ in_segment design cells places valid apart p w lt is =
     (omega (arith, apart.within p lt, is)) refl refl
 
 not_blocked : (node : NodeValue) (r q : Rectangle) → LiesIn r q → blocks node q ≡ false → blocks node r ≡ false
-not_blocked node r q within clear = by_fixed node.fixed clear where
-  by_fixed : (b : Bool) → (b && share_area (node_rectangle node) q) ≡ false → (b && share_area (node_rectangle node) r) ≡ false
-  by_fixed true h = parts_apart (node_rectangle node) r (node_rectangle node) q (itself (node_rectangle node)) within h
-  by_fixed false h = refl
+not_blocked node r q within clear = by_forbids (forbids_overlap node) clear where
+  by_forbids : (b : Bool) → (b && share_area (node_rectangle node) q) ≡ false → (b && share_area (node_rectangle node) r) ≡ false
+  by_forbids true h = parts_apart (node_rectangle node) r (node_rectangle node) q (itself (node_rectangle node)) within h
+  by_forbids false h = refl
 
 -- some sites of a run of a subrow, told from the subrow's first
 onward : (pitch x seg : ℤ) (from site : ℕ) → pos 1 ≤ℤ pitch → seg ≡ x +ℤ pos from *ℤ pitch → (seg +ℤ pos site *ℤ pitch) ≡ x +ℤ pos (from + site) *ℤ pitch

@@ -45,7 +45,7 @@ abbrev pub outline : NodeValue → Spot → Rectangle
 outline node spot = record { left = spot.x; right = spot.x +ℤ node.width; lower = spot.y; upper = spot.y +ℤ node.height }
 
 -- The cell's left edge lies a whole number of pitches right of a subrow's origin, and its lower edge is the subrow's. Its rectangle
--- lies in that subrow, contains the cell, and shares no area with a fixed node.
+-- lies in that subrow, contains the cell, and shares no area with a fixed node that forbids overlap.
 pub record IsLegalCell (design : DesignValue) (node : NodeValue) (spot : Spot) : Type 0 where
   pub subrow : ℕ
   pub there : subrow < length design.subrows
