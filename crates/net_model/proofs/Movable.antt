@@ -12,7 +12,7 @@ use Rattle.net_model.proofs.Ranges.{kept_more}
 
 -- what stands past the end
 abbrev pub no_node : NodeValue
-no_node = record { name = []; width = pos 0; height = pos 0; x = pos 0; y = pos 0; orient = N; fixed = true }
+no_node = record { name = []; width = pos 0; height = pos 0; x = pos 0; y = pos 0; orient = N; fixed = true; overlap = false }
 
 -- the movable nodes among the first n
 abbrev pub movable_up_to : List NodeValue → ℕ → List ℕ

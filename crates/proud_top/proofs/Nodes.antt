@@ -11,7 +11,7 @@ use Rattle.book_design.specs.Points.{is_movable, node_value_at, movable_before, 
 
 -- what stands past the end
 abbrev pub no_node : NodeValue
-no_node = record { name = []; width = pos 0; height = pos 0; x = pos 0; y = pos 0; orient = N; fixed = true }
+no_node = record { name = []; width = pos 0; height = pos 0; x = pos 0; y = pos 0; orient = N; fixed = true; overlap = false }
 
 -- one more node is one more movable one, or none
 record Step (nodes : List NodeValue) (n : ℕ) : Type 0 where

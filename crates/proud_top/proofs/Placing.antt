@@ -10,11 +10,11 @@ use Rattle.std.proofs.lemmas.List.FromFn.{map-range_with_len_more, length-map-ra
 use Rattle.std.proofs.lemmas.List.Elements.{All-from_get_or, All-push, recursion_from_All}
 use Rattle.book_files.specs.declared.records.PlaceLine.{PlaceLine}
 use Rattle.book_files.specs.Entries.{PlaceEntry, place_entry, place_entries}
-use Rattle.book_files.specs.Ranges.{IsName}
+use Rattle.book_files.specs.Ranges.{IsName, IsMarkedWell}
 use Rattle.book_design.specs.declared.parts.Node.{Node}
 use Rattle.book_design.specs.Values.{NodeValue, DesignValue, node_value, node_values}
 use Rattle.book_design.specs.Points.{is_movable, node_value_at, movable_before}
-use Rattle.book_design.specs.WellFormed.{IsDesign}
+use Rattle.book_design.specs.WellFormed.{IsDesign, IsGoodNode}
 use Rattle.row_space.specs.declared.parts.Segment.{Segment}
 use Rattle.row_space.specs.Values.{SegmentsValue, segment_at}
 use Rattle.row_space.specs.Ends.{IsGoodSegment, AreGoodSegments}
@@ -240,13 +240,19 @@ pub node_read : (design : DesignValue) (nodes : List Node) (i : ℕ) (node : Nod
 node_read design nodes i node same there is =
     ap node_value is ∙ sym (get_or-map node_value nodes i node no_node there) ∙ ap (λ (list : List NodeValue). node_value_at list i) same
 
--- ---- the names
+-- ---- what holds of each line, since it holds of each node
 
-pub names_good : (design : DesignValue) (corners : List Corner) → IsDesign design → AllByRecursion (λ place. IsName place.name) (places_of design.nodes corners)
-names_good design corners valid =
+lines_good : (P : PlaceEntry → Type 0) (design : DesignValue) (corners : List Corner) → IsDesign design
+    → ((i : ℕ) → IsGoodNode design.row_height (node_value_at design.nodes i) → P (place_of design.nodes corners i)) → AllByRecursion P (places_of design.nodes corners)
+lines_good P design corners valid each =
     let n = length design.nodes in
-    let P : PlaceEntry → Type 0 = λ place. IsName place.name in
     let line : ℕ → PlaceEntry = place_of design.nodes corners in
     recursion_from_All P (places_of design.nodes corners) (All-from_get_or P (places_of design.nodes corners) (line 0) (λ i inside.
     let below : i < n = omega (arith, inside, length-map-range_with_len line 0 n) in
-    subst P (sym (get_or-map-range_with_len line 0 n i i (line 0) below (zero-add i))) (good_node design i valid below).name))
+    subst P (sym (get_or-map-range_with_len line 0 n i i (line 0) below (zero-add i))) (each i (good_node design i valid below))))
+
+pub names_good : (design : DesignValue) (corners : List Corner) → IsDesign design → AllByRecursion (λ place. IsName place.name) (places_of design.nodes corners)
+names_good design corners valid = lines_good (λ place. IsName place.name) design corners valid (λ i good. good.name)
+
+pub marks_good : (design : DesignValue) (corners : List Corner) → IsDesign design → AllByRecursion (λ place. IsMarkedWell place.fixed place.overlap) (places_of design.nodes corners)
+marks_good design corners valid = lines_good (λ place. IsMarkedWell place.fixed place.overlap) design corners valid (λ i good. good.marks)

@@ -32,7 +32,7 @@ use Rattle.proud_top.specs.Forms.Over.{IsOver, IsLastOver}
 
 -- what stands past the end
 abbrev no_node : NodeValue
-no_node = record { name = []; width = pos 0; height = pos 0; x = pos 0; y = pos 0; orient = N; fixed = true }
+no_node = record { name = []; width = pos 0; height = pos 0; x = pos 0; y = pos 0; orient = N; fixed = true; overlap = false }
 
 -- the movable nodes among the first n
 abbrev movable_up_to : List NodeValue → ℕ → List ℕ

@@ -199,7 +199,7 @@ wish_is design level p k node xs ys wish here is x y made i at =
 
 -- what a read past the end gives
 abbrev pub no_record : Node
-no_record = record { name = record { 0 = record { ref_ptr = (0, 0); now = [] } }; width = pos 0; height = pos 0; x = pos 0; y = pos 0; orient = N; fixed = false }
+no_record = record { name = record { 0 = record { ref_ptr = (0, 0); now = [] } }; width = pos 0; height = pos 0; x = pos 0; y = pos 0; orient = N; fixed = false; overlap = false }
 
 -- the level that is read
 pub level_read : (levels list : List Level) (count : ℕ) (level : Level) → list ≡ levels → count < length levels → level ≡ get_or list count level → level ≡ level_at levels count

@@ -25,7 +25,7 @@ corners_of design spots = map (corner_of design.nodes spots) (range_with_len 0 (
 
 -- a node's line, behind the header: its name, its corner, its own orientation, and whether it is fixed
 abbrev pub place_with : NodeValue → Corner → ℕ → PlaceEntry
-place_with node corner i = record { line = i + 2; name = node.name; x = corner.x; y = corner.y; orient = node.orient; fixed = node.fixed }
+place_with node corner i = record { line = i + 2; name = node.name; x = corner.x; y = corner.y; orient = node.orient; fixed = node.fixed; overlap = node.overlap }
 
 abbrev pub place_of : List NodeValue → List Corner → ℕ → PlaceEntry
 place_of nodes corners i = place_with (node_value_at nodes i) (corner_at corners i) i

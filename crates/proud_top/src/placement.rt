@@ -52,5 +52,6 @@ fn line_of<'a>(node: &Node<'a>, corner: Corner, number: u32) -> PlaceLine<'a>
         y: Micro(corner.y),
         orient: node.orient,
         fixed: node.fixed,
+        overlap: node.overlap,
     }
 }

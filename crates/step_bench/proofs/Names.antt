@@ -1,6 +1,6 @@
 -- The names of the nodes of a design, and of the lines of a placement.
 use Rattle.std.proofs.Common.{◌≡◌, ℕ, ◌<◌, List, [], ◌∷◌, ◌++◌, length, get_or, sym, ◌∙◌, ap, subst, arith, pos}
-use Rattle.std.specs.Prelude.{true}
+use Rattle.std.specs.Prelude.{true, false}
 use Rattle.std.specs.List.{AllByRecursion}
 use Rattle.std.proofs.lemmas.List.{get_or-map, length-map, map-append}
 use Rattle.std.proofs.lemmas.List.Elements.{All-from_recursion}
@@ -13,7 +13,7 @@ use Rattle.book_design.specs.Values.{NodeValue, DesignValue, node_value, node_va
 use Rattle.book_design.specs.WellFormed.{IsDesign, IsGoodNode}
 
 no_node : NodeValue
-no_node = record { name = []; width = pos 0; height = pos 0; x = pos 0; y = pos 0; orient = N; fixed = true }
+no_node = record { name = []; width = pos 0; height = pos 0; x = pos 0; y = pos 0; orient = N; fixed = true; overlap = false }
 
 -- the name of the node that is read
 pub name_read : (design : DesignValue) (nodes : List Node) (i : ℕ) (d : Node) → IsDesign design → node_values nodes ≡ design.nodes → i < length nodes → IsName (node_value (get_or nodes i d)).name

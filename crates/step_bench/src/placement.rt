@@ -114,5 +114,6 @@ fn line_of<'a>(node: &Node<'a>, corner: Corner) -> PlaceLine<'a>
         y: Micro(corner.y),
         orient: node.orient,
         fixed: node.fixed,
+        overlap: node.overlap,
     }
 }

@@ -14,11 +14,11 @@ use Rattle.book_files.specs.declared.orient.Orient.TheVariants.{N}
 use Rattle.wire_report.specs.Wire.{half}
 
 abbrev no_node : NodeValue
-no_node = record { name = List.[]; width = pos 0; height = pos 0; x = pos 0; y = pos 0; orient = N; fixed = true }
+no_node = record { name = List.[]; width = pos 0; height = pos 0; x = pos 0; y = pos 0; orient = N; fixed = true; overlap = false }
 
 -- what a read past the end gives
 abbrev pub no_record : Node
-no_record = record { name = record { 0 = record { ref_ptr = (0, 0); now = List.[] } }; width = pos 0; height = pos 0; x = pos 0; y = pos 0; orient = N; fixed = false }
+no_record = record { name = record { 0 = record { ref_ptr = (0, 0); now = List.[] } }; width = pos 0; height = pos 0; x = pos 0; y = pos 0; orient = N; fixed = false; overlap = false }
 
 inside : (design : DesignValue) (nodes : List Node) (i : ℕ) → node_values nodes ≡ design.nodes → i < length design.nodes → i < length nodes
 inside design nodes i same there = omega (arith, ap length same, length-map nodes node_value, there)
