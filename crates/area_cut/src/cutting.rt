@@ -71,6 +71,17 @@ pub fn cut(
     Ok(parts)
 }
 
+/// The same regions once more. Only want of memory is refused.
+pub fn copy_of(alloc: Global, regions: &Regions) -> Result<Regions, Memory>
+    ensures { IfOk result (λ copy. copy ≡ regions.now) }
+{
+    let mut copy = Regions::new(alloc);
+    for region in regions.as_slice() {
+        keep(alloc, region, &mut copy)?;
+    }
+    Ok(copy)
+}
+
 /// Puts the parts of a region behind those so far.
 fn divide(
     alloc: Global,

@@ -103,7 +103,7 @@ impl Region {
     }
 }
 
-/// Regions in an order. Only `whole` and `cut` make them.
+/// Regions in an order. Only `whole`, `cut` and `copy_of` make them.
 #[derive(Drop)]
 pub struct Regions {
     items: Vec<Region>,
