@@ -1,5 +1,6 @@
 -- The points of nodes, one node at a time.
-use Rattle.std.proofs.Common.{◌≡◌, ℕ, ◌+◌, ◌-◌, ◌<◌, ◌≤◌, Bool, true, false, List, [], ◌∷◌, ◌++◌, length, get_or, refl, sym, ap, ◌∙◌, subst, ⊎_elim, arith, length-append, zero, suc, ℤ, pos, negsuc, neg_ℤ, ◌^◌, ◌≤ℤ◌, w64, to_z, of_z}
+use Rattle.std.proofs.Common.{◌≡◌, ℕ, ◌+◌, ◌-◌, ◌<◌, ◌≤◌, Bool, true, false, not, cond, List, [], ◌∷◌, ◌++◌, length, get_or, refl, sym, ap, ◌∙◌, subst, ⊎_elim, arith, length-append, zero, suc, ℤ, pos, negsuc, neg_ℤ, ◌^◌, ◌≤ℤ◌, w64, to_z, of_z}
+use Rattle.std.specs.Prelude.{Option, Some, None}
 use Rattle.std.specs.List.{count_by, AllByRecursion}
 use Rattle.std.proofs.lemmas.Bool.{cases_lt, cases_eq}
 use Rattle.std.proofs.lemmas.List.{get_or_append_left, get_or_push, take_all, get_or-map, length-map}
@@ -14,28 +15,33 @@ use Rattle.book_design.specs.declared.parts.Node.{Node}
 use Rattle.book_files.specs.declared.orient.Orient.TheVariants.{N}
 use Rattle.book_design.specs.Values.{NodeValue, node_value, node_values}
 use Rattle.book_design.specs.Points.{is_movable, node_value_at, movable_before, IsNodeOf}
-use Rattle.book_design.specs.Forms.Assembly.{ArePoints}
+use Rattle.book_design.specs.Forms.Assembly.{ArePoints, point_number}
 
 -- the node that a read past the end gives
 abbrev pub no_record : Node
 no_record = record { name = record { 0 = record { ref_ptr = (0, 0); now = [] } }; width = pos 0; height = pos 0; x = pos 0; y = pos 0; orient = N; fixed = false; overlap = false }
 
-before_more : (nodes : List NodeValue) (i m : ℕ) (numbers new : List ℕ) → length numbers ≡ i → m ≡ movable_before nodes i → new ≡ numbers ++ m ∷ [] → ((k : ℕ) → k < i → get_or numbers k 0 ≡ movable_before nodes k) → (k : ℕ) → k < i + 1 → get_or new k 0 ≡ movable_before nodes k
+before_more : (nodes : List NodeValue) (i : ℕ) (m : Option ℕ) (numbers new : List (Option ℕ)) → length numbers ≡ i → m ≡ point_number nodes i → new ≡ numbers ++ m ∷ []
+    → ((k : ℕ) → k < i → get_or numbers k None ≡ point_number nodes k) → (k : ℕ) → k < i + 1 → get_or new k None ≡ point_number nodes k
 before_more nodes i m numbers new len here e h k below = ⊎_elim
-    (λ (same : k ≡ i). let at : length numbers ≡ k = omega arith in ap (λ (xs : List ℕ). get_or xs k 0) e ∙ get_or_push numbers m 0 k at ∙ here ∙ ap (movable_before nodes) (sym same))
-    (λ apart. let within : k < length numbers = omega arith in ap (λ (xs : List ℕ). get_or xs k 0) e ∙ get_or_append_left numbers (m ∷ []) 0 k within ∙ h k (omega arith))
+    (λ (same : k ≡ i). let at : length numbers ≡ k = omega arith in ap (λ (xs : List (Option ℕ)). get_or xs k None) e ∙ get_or_push numbers m None k at ∙ here ∙ ap (point_number nodes) (sym same))
+    (λ apart. let within : k < length numbers = omega arith in ap (λ (xs : List (Option ℕ)). get_or xs k None) e ∙ get_or_append_left numbers (m ∷ []) None k within ∙ h k (omega arith))
     (cases_eq k i)
 
+one_longer : (numbers new : List (Option ℕ)) (m : Option ℕ) (i : ℕ) → length numbers ≡ i → new ≡ numbers ++ m ∷ [] → length new ≡ i + 1
+one_longer numbers new m i len e = ap length e ∙ length-append numbers (m ∷ []) ∙ ap (λ n. n + 1) len
+
 -- the next node is fixed
-pub points_fixed : (nodes : List NodeValue) (i : ℕ) (movable numbers new : List ℕ) → i < length nodes → is_movable (node_value_at nodes i) ≡ false → new ≡ numbers ++ length movable ∷ [] → ArePoints nodes i movable numbers → ArePoints nodes (i + 1) movable new
+pub points_fixed : (nodes : List NodeValue) (i : ℕ) (movable : List ℕ) (numbers new : List (Option ℕ)) → i < length nodes → (node_value_at nodes i).fixed ≡ true
+    → new ≡ numbers ++ None ∷ [] → ArePoints nodes i movable numbers → ArePoints nodes (i + 1) movable new
 points_fixed nodes i movable numbers new there fixed e h = record {
-  points = h.points ∙ sym (count_by_more_no is_movable nodes i _ there fixed);
+  points = h.points ∙ sym (count_by_more_no is_movable nodes i _ there (ap not fixed));
   node = h.node;
-  nodes_so_far = ap length e ∙ length-append numbers (length movable ∷ []) ∙ ap (λ n. n + 1) h.nodes_so_far;
-  before = before_more nodes i (length movable) numbers new h.nodes_so_far h.points e h.before;
+  nodes_so_far = one_longer numbers new None i h.nodes_so_far e;
+  before = before_more nodes i None numbers new h.nodes_so_far (sym (ap (λ b. cond b None (Some (movable_before nodes i))) fixed)) e h.before;
 }
 
-node_more : (nodes : List NodeValue) (i : ℕ) (movable more numbers : List ℕ) → i < length nodes → is_movable (node_value_at nodes i) ≡ true → more ≡ movable ++ i ∷ [] → ArePoints nodes i movable numbers → (p : ℕ) → p < length more → IsNodeOf nodes p (get_or more p 0)
+node_more : (nodes : List NodeValue) (i : ℕ) (movable more : List ℕ) (numbers : List (Option ℕ)) → i < length nodes → is_movable (node_value_at nodes i) ≡ true → more ≡ movable ++ i ∷ [] → ArePoints nodes i movable numbers → (p : ℕ) → p < length more → IsNodeOf nodes p (get_or more p 0)
 node_more nodes i movable more numbers there moves f h p below =
     let longer : length more ≡ length movable + 1 = ap length f ∙ length-append movable (i ∷ []) in
     ⊎_elim
@@ -50,16 +56,18 @@ node_more nodes i movable more numbers there moves f h p below =
     (cases_eq p (length movable))
 
 -- the next node is movable
-pub points_movable : (nodes : List NodeValue) (i : ℕ) (movable more numbers new : List ℕ) → i < length nodes → is_movable (node_value_at nodes i) ≡ true → new ≡ numbers ++ length movable ∷ [] → more ≡ movable ++ i ∷ [] → ArePoints nodes i movable numbers → ArePoints nodes (i + 1) more new
+pub points_movable : (nodes : List NodeValue) (i : ℕ) (movable more : List ℕ) (numbers new : List (Option ℕ)) → i < length nodes → (node_value_at nodes i).fixed ≡ false
+    → new ≡ numbers ++ Some (length movable) ∷ [] → more ≡ movable ++ i ∷ [] → ArePoints nodes i movable numbers → ArePoints nodes (i + 1) more new
 points_movable nodes i movable more numbers new there moves e f h = record {
-  points = ap length f ∙ length-append movable (i ∷ []) ∙ ap (λ n. n + 1) h.points ∙ sym (count_by_more_yes is_movable nodes i _ there moves);
-  node = node_more nodes i movable more numbers there moves f h;
-  nodes_so_far = ap length e ∙ length-append numbers (length movable ∷ []) ∙ ap (λ n. n + 1) h.nodes_so_far;
-  before = before_more nodes i (length movable) numbers new h.nodes_so_far h.points e h.before;
+  points = ap length f ∙ length-append movable (i ∷ []) ∙ ap (λ n. n + 1) h.points ∙ sym (count_by_more_yes is_movable nodes i _ there (ap not moves));
+  node = node_more nodes i movable more numbers there (ap not moves) f h;
+  nodes_so_far = one_longer numbers new (Some (length movable)) i h.nodes_so_far e;
+  before = before_more nodes i (Some (length movable)) numbers new h.nodes_so_far
+      (ap (λ n. Some n) h.points ∙ sym (ap (λ b. cond b None (Some (movable_before nodes i))) moves)) e h.before;
 }
 
 -- all nodes are seen
-pub points_whole : (nodes : List NodeValue) (i : ℕ) (movable numbers : List ℕ) → length nodes ≤ i → ArePoints nodes i movable numbers → length movable ≡ count_by is_movable nodes
+pub points_whole : (nodes : List NodeValue) (i : ℕ) (movable : List ℕ) (numbers : List (Option ℕ)) → length nodes ≤ i → ArePoints nodes i movable numbers → length movable ≡ count_by is_movable nodes
 points_whole nodes i movable numbers all h = h.points ∙ ap (count_by is_movable) (take_all i nodes all)
 
 step : (nodes : List NodeValue) (j : ℕ) → j < length nodes → movable_before nodes j ≤ movable_before nodes (j + 1)
@@ -104,7 +112,7 @@ pub node_count : (nodes : List Node) → length (node_values nodes) ≡ length n
 node_count nodes = length-map nodes node_value
 
 -- the node that the lists give for a point
-pub this_node : (items : List Node) (movable numbers : List ℕ) (point k : ℕ) → ArePoints (node_values items) (length (node_values items)) movable numbers → point < count_by is_movable (node_values items) → k ≡ get_or movable point k → IsNodeOf (node_values items) point k
+pub this_node : (items : List Node) (movable : List ℕ) (numbers : List (Option ℕ)) (point k : ℕ) → ArePoints (node_values items) (length (node_values items)) movable numbers → point < count_by is_movable (node_values items) → k ≡ get_or movable point k → IsNodeOf (node_values items) point k
 this_node items movable numbers point k h below e =
     let whole = points_whole (node_values items) (length (node_values items)) movable numbers (omega arith) h in
     let within : point < length movable = omega arith in

@@ -11,11 +11,11 @@ use crate::rows::RowShape;
 use std::alloc::{AllocError, Global};
 use std::marker::Model;
 
-/// The points of nodes: the number of the node of each, and how many stand before each node.
+/// The points of nodes: the number of the node of each, and the point of each node, none for a fixed one.
 #[derive(Drop)]
 pub(crate) struct PointLists {
     movable: Vec<u32>,
-    numbers: Vec<u32>,
+    numbers: Vec<Option<u32>>,
 }
 
 /// A joined design. Nodes, nets, rows and subrows are numbered from 0 in the order of their files.
@@ -164,11 +164,7 @@ impl<'a> Design<'a> {
         ensures point { result ≡ (if (node_value_at self.now.nodes node).fixed then None else Some (movable_before self.now.nodes node)) }
         ensures valid { IsDesign self.now }
     {
-        if self.nodes[node as usize].fixed {
-            None
-        } else {
-            Some(self.points.numbers[node as usize])
-        }
+        self.points.numbers[node as usize]
     }
 }
 
@@ -189,8 +185,10 @@ pub(crate) fn point_lists(alloc: Global, nodes: &[Node<'_>]) -> Result<PointList
     let mut movable = Vec::new(alloc);
     let mut numbers = Vec::new(alloc);
     for (i, node) in nodes.iter().enumerate() {
-        numbers.push(movable.len() as u32)?;
-        if !node.fixed {
+        if node.fixed {
+            numbers.push(None)?;
+        } else {
+            numbers.push(Some(movable.len() as u32))?;
             movable.push(i as u32)?;
         }
     }

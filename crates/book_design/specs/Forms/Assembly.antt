@@ -1,5 +1,5 @@
 -- How a design is kept: its points by number, and its core from the subrows.
-use Rattle.std.specs.Prelude.{◌≡◌, ℕ, ◌<◌, List, length, slice_index_or, Option, Some, None, ℤ, pos, neg_ℤ, ◌^◌, ◌≤◌, ◌≤ℤ◌, ◌+ℤ◌}
+use Rattle.std.specs.Prelude.{◌≡◌, ℕ, ◌<◌, List, length, slice_index_or, Option, Some, None, if◌then◌else◌, ℤ, pos, neg_ℤ, ◌^◌, ◌≤◌, ◌≤ℤ◌, ◌+ℤ◌}
 use Rattle.std.specs.Int.{int_min, int_max}
 use Rattle.book_design.specs.declared.rules.TheConstants.{MOST_SITES, ROWS_END}
 use Rattle.book_design.specs.declared.strips.Strip.{Strip as Kept}
@@ -10,15 +10,19 @@ use Rattle.book_design.specs.declared.parts.Subrow.{Subrow}
 use Rattle.book_design.specs.declared.rows.RowShape.{RowShape}
 use Rattle.book_design.specs.Values.{NodeValue, DesignValue, node_values}
 use Rattle.book_design.specs.Nets.{net_values}
-use Rattle.book_design.specs.Points.{movable_before, IsNodeOf}
+use Rattle.book_design.specs.Points.{node_value_at, movable_before, IsNodeOf}
 use Rattle.book_design.specs.Forms.Parts.{kept_at}
 
--- the points among the first so many nodes: the node of each point, and how many points stand before each node
-pub record ArePoints (nodes : List NodeValue) (i : ℕ) (movable numbers : List ℕ) : Type 0 where
+-- the point that is the node of this number, and none for a fixed node
+abbrev pub point_number : List NodeValue → ℕ → Option ℕ
+point_number nodes k = if (node_value_at nodes k).fixed then None else Some (movable_before nodes k)
+
+-- the points among the first so many nodes: the node of each point, and the point of each node
+pub record ArePoints (nodes : List NodeValue) (i : ℕ) (movable : List ℕ) (numbers : List (Option ℕ)) : Type 0 where
   pub points : length movable ≡ movable_before nodes i
   pub node : (p : ℕ) → p < length movable → IsNodeOf nodes p (slice_index_or movable p 0)
   pub nodes_so_far : length numbers ≡ i
-  pub before : (k : ℕ) → k < i → slice_index_or numbers k 0 ≡ movable_before nodes k
+  pub before : (k : ℕ) → k < i → slice_index_or numbers k None ≡ point_number nodes k
 
 -- one of the first so many subrows, which has a site
 abbrev pub HasSiteBefore : List Kept → ℕ → ℕ → Type 0
