@@ -31,8 +31,8 @@ for given in "$@"; do
     for seats in 1 4; do
         rm -f "$work"/*.seconds
         for _ in $(seq "$runs"); do
-            run sweeps "$by_hand" --tell --seats "$seats" --shift 0 --passes 0 "${words[@]}"
-            run coarse "$by_hand" --tell --seats "$seats" --passes 0 "${words[@]}"
+            run sweeps "$by_hand" --tell --seats "$seats" --shift 0 --chases 0 "${words[@]}"
+            run coarse "$by_hand" --tell --seats "$seats" --chases 0 "${words[@]}"
             run marks "$by_hand" --tell --seats "$seats" "${words[@]}"
             run proved "$program" --seats "$seats" "${words[@]}"
             same proved sweeps

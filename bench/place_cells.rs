@@ -1,11 +1,11 @@
 //! The whole placer by hand in plain Rust, without its proofs, to measure the proved program against.
 //!
-//! `place_cells [--tell] [--levels N] [--seats N] [--shift K] [--passes P] [--out FILE] (DESIGN | --grid R,C,K)` reads the design beside the aux file, or
+//! `place_cells [--tell] [--levels N] [--seats N] [--shift K] [--chases P] [--out FILE] (DESIGN | --grid R,C,K)` reads the design beside the aux file, or
 //! makes the texts of a grid, solves it, cuts its core N times (by default 4) and solves each level anew. It puts the cells on
 //! sites and writes the placement to FILE, by default to DESIGN without its `.aux` and with `.proud.pl`, or to `grid.proud.pl`,
 //! and prints how much there is of what, how far the lower and the upper coordinates stand apart at most in any level, and the
 //! wire length. Without `--seats` it solves by plain sweeps; with it, by a crew of that many threads on shared words: with
-//! `--shift K` it begins with K halvings (by default 20), and with `--passes P` a seat makes at most P passes over its marks (by
+//! `--shift K` it begins with K halvings (by default 20), and with `--chases P` a seat makes at most P passes over its marks (by
 //! default 64). With `--tell`, standard error gets the sweeps, or the relaxations of each seat.
 //!
 //! `place_cells --steps [--times N] [--levels N] [--schedule FILE [--seats N]] (DESIGN | --grid R,C,K)` times each step once, and
@@ -102,7 +102,7 @@ fn words() -> Option<Asked> {
             seats: None,
             method: Method {
                 shift: 20,
-                passes: 64,
+                chases: 64,
             },
             tell: false,
         },
@@ -122,9 +122,9 @@ fn words() -> Option<Asked> {
                 let shift = words.next()?.parse().ok();
                 asked.way.method.shift = shift.filter(|shift| *shift <= 20)?;
             }
-            "--passes" => {
-                let passes = words.next()?.parse().ok();
-                asked.way.method.passes = passes.filter(|passes| *passes <= 64)?;
+            "--chases" => {
+                let chases = words.next()?.parse().ok();
+                asked.way.method.chases = chases.filter(|chases| *chases <= 64)?;
             }
             "--times" => asked.times = words.next()?.parse().ok()?,
             "--schedule" => asked.schedule = Some(words.next()?),
@@ -164,7 +164,7 @@ fn refused(line: &str) -> ExitCode {
 
 fn usage() -> ExitCode {
     println!(
-        "usage: place_cells [--tell] [--levels N] [--seats N] [--shift K] [--passes P] [--out FILE] (DESIGN | --grid R,C,K)"
+        "usage: place_cells [--tell] [--levels N] [--seats N] [--shift K] [--chases P] [--out FILE] (DESIGN | --grid R,C,K)"
     );
     ExitCode::from(1)
 }

@@ -9,7 +9,7 @@ use std::thread;
 #[derive(Clone, Copy)]
 pub struct Method {
     pub shift: u32,
-    pub passes: u32,
+    pub chases: u32,
 }
 
 /// What the seats of a crew share: a word and a mark per point.
@@ -135,7 +135,7 @@ impl<S: Sum> System<'_, S> {
                 if UP { twice.max(*end) } else { twice.min(*end) }
             });
             let start: Vec<u64> = doubled.collect();
-            let (seen, more) = halved.settle_by_crew::<UP>(&start, seats, method.passes);
+            let (seen, more) = halved.settle_by_crew::<UP>(&start, seats, method.chases);
             found = seen;
             for (count, more) in counts.iter_mut().zip(more) {
                 *count += more;
@@ -149,7 +149,7 @@ impl<S: Sum> System<'_, S> {
         &self,
         start: &[u64],
         seats: usize,
-        passes: u32,
+        chases: u32,
     ) -> (Vec<u64>, Vec<u64>) {
         const APART: usize = 16;
         let points = start.len();
@@ -163,7 +163,7 @@ impl<S: Sum> System<'_, S> {
         let mut views = vec![view; seats];
         let take_turn = |k: usize, view: &mut Vec<u64>| {
             let range = (k * points / seats, (k + 1) * points / seats);
-            self.take_turn::<UP>(&table, &mut view[APART..APART + points], range, passes)
+            self.take_turn::<UP>(&table, &mut view[APART..APART + points], range, chases)
         };
         if seats == 1 {
             let count = take_turn(0, &mut views[0]);
@@ -222,12 +222,12 @@ impl<S: Sum> System<'_, S> {
         table: &Table,
         seen: &mut [u64],
         range: (usize, usize),
-        passes: u32,
+        chases: u32,
     ) -> u64 {
         let mut work = Work::default();
         let words = &table.words[..];
         self.relax::<UP>(words, seen, range, &mut work);
-        self.chase::<UP>(table, seen, range, passes, &mut work);
+        self.chase::<UP>(table, seen, range, chases, &mut work);
         while self.relax::<UP>(words, seen, range, &mut work) {}
         while self.relax::<UP>(words, seen, (0, words.len()), &mut work) {}
         work.relaxations
