@@ -34,6 +34,8 @@ pub struct Node<'a> {
     pub y: i64,
     pub orient: Orient,
     pub fixed: bool,
+    /// Whether it is fixed and cells may stand over it.
+    pub overlap: bool,
 }
 
 /// Sites side by side, from a lower left corner on.
@@ -174,6 +176,7 @@ pub fn join<'a>(records: &Records<'a>) -> Design<'a> {
                 y: place.map_or(0, |p| p.y),
                 orient: place.map_or(Orient::N, |p| p.orient),
                 fixed: line.fixed || place.is_some_and(|p| p.fixed),
+                overlap: line.overlap || place.is_some_and(|p| p.overlap),
             }
         })
         .collect();

@@ -48,7 +48,11 @@ pub fn corners(design: &Design, segments: &[Segment], places: &[Place]) -> Vec<C
 pub fn placement_text(design: &Design, corners: &[Corner]) -> Vec<u8> {
     let mut text = b"UCLA pl 1.0\n".to_vec();
     for (node, corner) in design.nodes.iter().zip(corners) {
-        let end: &[u8] = if node.fixed { b" /FIXED\n" } else { b"\n" };
+        let end: &[u8] = match (node.fixed, node.overlap) {
+            (false, _) => b"\n",
+            (true, false) => b" /FIXED\n",
+            (true, true) => b" /FIXED_NI\n",
+        };
         push_line(&mut text, node, corner, end);
     }
     text

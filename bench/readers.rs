@@ -22,6 +22,8 @@ pub struct NodeLine<'a> {
     pub width: i64,
     pub height: i64,
     pub fixed: bool,
+    /// Whether it is marked as one that allows overlap.
+    pub overlap: bool,
 }
 
 #[derive(Clone, Copy)]
@@ -58,6 +60,8 @@ pub struct PlaceLine<'a> {
     pub y: i64,
     pub orient: Orient,
     pub fixed: bool,
+    /// Whether it is marked as one that allows overlap.
+    pub overlap: bool,
 }
 
 fn is_blank(byte: u8) -> bool {
@@ -257,11 +261,19 @@ fn records_behind_header<'a, Record>(
     }
 }
 
+/// Whether a mark of a fixed node allows overlap: it is `plain`, or the same with `_NI` behind it. None for another word.
+fn overlap_of(word: &[u8], plain: &[u8]) -> Option<bool> {
+    let (front, end) = word.split_at_checked(plain.len())?;
+    let overlap = end.eq_ignore_ascii_case(b"_ni");
+    (front.eq_ignore_ascii_case(plain) && (overlap || end.is_empty())).then_some(overlap)
+}
+
 fn node_of<'a>(line: u64, words: &[&'a [u8]]) -> Result<NodeLine<'a>, Kind> {
-    let (name, width, height, fixed) = match words {
-        [name, width, height] => (name, width, height, false),
-        [name, width, height, mark] if mark.eq_ignore_ascii_case(b"terminal") => {
-            (name, width, height, true)
+    let (name, width, height, mark) = match words {
+        [name, width, height] => (name, width, height, None),
+        [name, width, height, mark] => {
+            let overlap = overlap_of(mark, b"terminal").ok_or(Kind::BadLine)?;
+            (name, width, height, Some(overlap))
         }
         _ => return Err(Kind::BadLine),
     };
@@ -270,7 +282,8 @@ fn node_of<'a>(line: u64, words: &[&'a [u8]]) -> Result<NodeLine<'a>, Kind> {
         name,
         width: size_of(width)?,
         height: size_of(height)?,
-        fixed,
+        fixed: mark.is_some(),
+        overlap: mark.unwrap_or(false),
     })
 }
 
@@ -322,12 +335,11 @@ fn orient_of(word: &[u8]) -> Option<Orient> {
 }
 
 fn place_of<'a>(line: u64, words: &[&'a [u8]]) -> Result<PlaceLine<'a>, Kind> {
-    let (front, fixed) = match words {
-        [front @ .., mark] if words.len() > 3 && mark.eq_ignore_ascii_case(b"/fixed") => {
-            (front, true)
-        }
-        _ => (words, false),
+    let mark = match words {
+        [_, _, _, .., mark] => overlap_of(mark, b"/fixed"),
+        _ => None,
     };
+    let front = &words[..words.len() - usize::from(mark.is_some())];
     let (name, x, y, orient) = match front {
         [name, x, y] => (name, x, y, Orient::N),
         [name, x, y, colon, orient] if *colon == b":" => {
@@ -341,7 +353,8 @@ fn place_of<'a>(line: u64, words: &[&'a [u8]]) -> Result<PlaceLine<'a>, Kind> {
         x: number_of(x)?,
         y: number_of(y)?,
         orient,
-        fixed,
+        fixed: mark.is_some(),
+        overlap: mark.unwrap_or(false),
     })
 }
 

@@ -1,4 +1,4 @@
-//! The segments of a design by hand in plain Rust: the runs of sites on which no fixed node stands.
+//! The segments of a design by hand in plain Rust: the runs of sites on which no fixed node stands that forbids overlap.
 
 use crate::design::{Design, Node, Subrow};
 
@@ -52,12 +52,12 @@ fn run(subrow: &Subrow, pitch: i64, from: u32, to: u32) -> Option<Segment> {
     })
 }
 
-/// What all fixed nodes take, in order.
+/// What all fixed nodes take that forbid overlap, in order.
 fn taken_sites(design: &Design) -> Vec<Taken> {
     let strips = strips_of(design);
     let rows: Vec<&[Strip]> = strips.chunk_by(|a, b| a.y == b.y).collect();
     let mut taken = Vec::new();
-    let solid = |node: &&Node| node.fixed && node.width > 0 && node.height > 0;
+    let solid = |node: &&Node| node.fixed && !node.overlap && node.width > 0 && node.height > 0;
     for node in design.nodes.iter().filter(solid) {
         let (right, top) = (node.x + node.width, node.y + node.height);
         let first = rows.partition_point(|row| row[0].y + design.row_height <= node.y);
