@@ -9,7 +9,8 @@ The designs have cores from a millionth to some hundred thousand units wide, so 
 come to 0, and sums pass 64 bits; pads inside the core and far outside, cells of no width, nets with a node twice, nets of
 15 to 20 nodes, and weights of 0. Rows have one or more subrows, some without sites, stand in any order, with gaps between them or
 in columns that are shifted against each other, so that wishes lie beside them all. Fixed blocks, some of them flat, cover sites
-in whole or in part, and touch others; now and then there is no room for all cells.
+in whole or in part, and touch others; in two designs of three some of them, and of the pads, allow overlap. Now and then there is
+no room for all cells.
 """
 import argparse
 import collections
@@ -24,6 +25,8 @@ import levels
 
 MOST = 1000000000000
 ORIENTS = "N", "S", "E", "W", "FN", "FS", "FE", "FW"
+# What may stand behind the mark of a fixed node: nothing, or that it allows overlap.
+ENDS = [""], ["", "_NI"], ["", "", "", "_NI", "_ni", "_nI"]
 
 
 def decimal(millionths):
@@ -58,17 +61,27 @@ def scl_of(rng, subrows, pitch, height):
     return lines
 
 
-def pl_of(rng, names, blocks, places):
-    """The lines of `.pl`: of each fixed node, and of some of the cells; the last line of a node counts."""
+def pl_of(rng, names, marks, places):
+    """Lines for the fixed nodes, and for some of the cells; the last line of a node counts, and its mark."""
+    some = lambda: f"{rng.randint(-9, 9)} {rng.randint(-9, 9)}"
     turned = lambda: rng.choice(["", " : N", f" : {rng.choice(ORIENTS)}"])
-    lines = []
+    lines = ["UCLA pl 1.0"]
     for name in names:
-        if name in places:
-            x, y = places[name]
-            lines.append(f"{name} {decimal(x)} {decimal(y)}{turned()}{blocks[name]}")
-        elif rng.random() < 0.7:
-            lines += [f"{name} {rng.randint(-9, 9)} {rng.randint(-9, 9)}{turned()}" for _ in range(rng.choice([1, 1, 1, 2]))]
-    return ["UCLA pl 1.0"] + lines
+        if name in places or rng.random() < 0.7:
+            x, y = places.get(name, (rng.randint(-9, 9) * 1000000, rng.randint(-9, 9) * 1000000))
+            for _ in range(rng.choice([0, 0, 0, 1])):
+                lines.append(f"{name} {some()}{turned()}{rng.choice(['', ' /FIXED', ' /FIXED_NI'])}")
+            lines.append(f"{name} {decimal(x)} {decimal(y)}{turned()}{marks.get(name, '')}")
+    return lines
+
+
+def random_marks(rng, names):
+    """How each of these fixed nodes is marked in `.nodes` and in `.pl`: in the one, in the other, or in both."""
+    ends, marks = rng.choice(ENDS), {}
+    for name in names:
+        mark = " terminal" + rng.choice(ends), " /FIXED" + rng.choice(ends)
+        marks[name] = rng.choice([mark, (mark[0], ""), ("", mark[1])])
+    return marks
 
 
 def random_design(rng):
@@ -102,8 +115,7 @@ def random_design(rng):
     sizes |= {pad: (0 if clear else rng.randint(0, pitch), rng.randint(0, height)) for pad in pads}
     sizes |= {block: (rng.choice([0, pitch, rng.randint(0, 4 * pitch)]), rng.choice([0, height, rng.randint(0, 2 * height)]))
               for block in blocks}
-    # A fixed node is marked in `.nodes`, in `.pl`, or in both.
-    marks = {name: rng.choice([(" terminal", " /FIXED"), (" terminal", ""), ("", " /FIXED")]) for name in pads + blocks}
+    marks = random_marks(rng, pads + blocks)
     order = cells + pads + blocks
     if rng.random() < 0.3:
         rng.shuffle(order)
@@ -138,7 +150,7 @@ def main():
     parser.add_argument("--seed", type=int, default=1)
     parser.add_argument("programs", nargs="+")
     options = parser.parse_args()
-    failed = placed = 0
+    failed = placed = overlap = 0
     for seed in range(options.seed, options.seed + options.count):
         rng = random.Random(seed)
         with tempfile.TemporaryDirectory() as folder:
@@ -148,12 +160,13 @@ def main():
             aux, number = os.path.join(folder, "d.aux"), rng.choice([0, 1, 2, 3, 4, 4, 12])
             due = levels.answer(aux, number)
             placed += due[0] == 0
+            overlap += b" /FIXED_NI\n" in (due[2] or b"")
             for program in options.programs:
                 answer = answer_of(program, aux, number)
                 if answer != due:
                     failed += 1
                     print(f"seed {seed}, {number} levels, {program}: {answer} instead of {due}")
-    print(f"{options.count} designs, {placed} placed, {failed} answers differ")
+    print(f"{options.count} designs, {placed} placed, {overlap} of them with nodes that allow overlap; {failed} answers differ")
     return min(failed, 1)
 
 

@@ -1,11 +1,11 @@
 #!/usr/bin/env python3
 """Says whether a placement is legal: legal.py AUX PLACEMENT. It prints `legal`, or a line for each thing that isn't, with status 1.
 
-The placement has a line for each node, in the order of `.nodes`. A fixed node stands where `.pl` puts it, and is marked as fixed.
-A movable one isn't marked. It stands on a subrow, a whole number of pitches from the subrow's origin, with all its sites in the
-subrow: as many as its width needs, and at least one. The sites of a cell share no area with a fixed node, nor with those of
-another cell. Each is turned as in `.pl`, a movable one without a line there as N. It shares no code with a placer. `.nets` and
-`.wts` say nothing of this.
+The placement has a line for each node, in the order of `.nodes`. A fixed node stands where `.pl` puts it, and is marked as
+`/FIXED_NI` where it allows overlap, and else as `/FIXED`. A movable one isn't marked. It stands on a subrow, a whole number of
+pitches from the subrow's origin, with all its sites in the subrow: as many as its width needs, and at least one. The sites of a
+cell share no area with a fixed node that forbids overlap, nor with those of another cell. Each is turned as in `.pl`, a movable
+one without a line there as N. It shares no code with a placer. `.nets` and `.wts` say nothing of this.
 """
 import os
 import sys
@@ -25,11 +25,18 @@ def lines_of(path):
 
 
 def places_of(path):
-    """Of each line: the name; then x, y, how the node is turned, and whether it is fixed."""
+    """Of each line: the name; then x, y, how the node is turned, and its mark or none."""
     for name, x, y, *words in lines_of(path):
         words = [word.upper() for word in words]
-        turned = [word for word in words if word != b"/FIXED"] or [b"N"]
-        yield name, (micro(x), micro(y), turned[0], b"/FIXED" in words)
+        marks = [word for word in words if word.startswith(b"/")] or [b""]
+        turned = [word for word in words if not word.startswith(b"/")] or [b"N"]
+        yield name, (micro(x), micro(y), turned[0], marks[0])
+
+
+def due_mark(*marks):
+    """The mark in a placement of a node with these marks in `.nodes` and in its line of `.pl`; none for a movable one."""
+    marks = {mark.upper() for mark in marks} - {b""}
+    return b"/FIXED_NI" if marks & {b"TERMINAL_NI", b"/FIXED_NI"} else b"/FIXED" if marks else b""
 
 
 def rows_of(path):
@@ -74,16 +81,17 @@ def faults(aux, placement):
     if [name for name, _ in after] != [node[0] for node in nodes]:
         return ["the placement's lines aren't those of the nodes in their order"]
     found, cells, blocks = [], [], []
-    for (name, width, high, *mark), (_, (x, y, turned, marked)) in zip(nodes, after):
+    for (name, width, high, *marks), (_, (x, y, turned, mark)) in zip(nodes, after):
         told, width, high = name.decode(errors="backslashreplace"), micro(width), micro(high)
-        old_x, old_y, old_turned, fixed = before.get(name, (0, 0, b"N", False))
-        fixed = fixed or len(mark) > 0
+        old_x, old_y, old_turned, old_mark = before.get(name, (0, 0, b"N", b""))
+        due = due_mark(*marks, old_mark)
         if turned != old_turned:
             found.append(f"{told} is turned")
-        if marked != fixed:
-            found.append(f"{told} is marked as fixed" if marked else f"{told} isn't marked as fixed")
-        if fixed:
-            blocks.append((told, x, x + width, y, y + high))
+        if mark != due:
+            found.append(f"{told} is marked as {mark.decode() or 'movable'}, and is {due.decode() or 'movable'}")
+        if due:
+            # Cells may stand over a node that allows overlap.
+            blocks += [(told, x, x + width, y, y + high)] if due == b"/FIXED" else []
             if (x, y) != (old_x, old_y):
                 found.append(f"{told} is fixed and was moved")
         else:

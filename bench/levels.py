@@ -40,13 +40,18 @@ class Design:
 
     def read_nodes(self, nodes, places):
         place = {line[0]: line[1:] for line in places}
-        self.size, self.corner, self.orient, self.cells, self.fixed = {}, {}, {}, [], set()
+        self.size, self.corner, self.orient, self.cells = {}, {}, {}, []
+        # Which nodes are fixed, and over which of them cells may stand.
+        self.fixed, self.overlap = set(), set()
         for name, width, height, *mark in nodes:
-            at = place.get(name, ["0", "0"])
+            x, y, *words = place.get(name, ["0", "0"])
             self.size[name] = micro(width), micro(height)
-            self.corner[name] = micro(at[0]), micro(at[1])
-            self.orient[name] = next((word.upper() for word in at[2:] if word.lower() != "/fixed"), "N")
-            if mark or at[-1].lower() == "/fixed":
+            self.corner[name] = micro(x), micro(y)
+            self.orient[name] = next((word.upper() for word in words if not word.startswith("/")), "N")
+            marks = [word.lower() for word in mark + words]
+            if {"terminal_ni", "/fixed_ni"}.intersection(marks):
+                self.overlap.add(name)
+            if {"terminal", "/fixed", "terminal_ni", "/fixed_ni"}.intersection(marks):
                 self.fixed.add(name)
             else:
                 self.cells.append(name)
@@ -205,8 +210,9 @@ def share_area(one, other):
 
 
 def segments(design):
-    """The runs of sites that share no area with a fixed node: x, y, sites."""
-    walls = [[(at, at + side) for at, side in zip(design.corner[name], design.size[name])] for name in design.fixed]
+    """The runs of sites that share no area with a fixed node that forbids overlap: x, y, sites."""
+    forbidding = design.fixed - design.overlap
+    walls = [[(at, at + side) for at, side in zip(design.corner[name], design.size[name])] for name in forbidding]
     walls = [wall for wall in walls if all(low < high for low, high in wall)]
     for x, y, sites in design.subrows:
         lefts = [x + k * design.pitch for k in range(sites)]
@@ -267,7 +273,8 @@ def placement(design, places):
     yield "UCLA pl 1.0"
     for name in design.size:
         x, y = design.corner[name] if name in design.fixed else places[name]
-        yield f"{name} {decimal(x)} {decimal(y)} : {design.orient[name]}" + (" /FIXED" if name in design.fixed else "")
+        mark = " /FIXED_NI" if name in design.overlap else " /FIXED" if name in design.fixed else ""
+        yield f"{name} {decimal(x)} {decimal(y)} : {design.orient[name]}{mark}"
 
 
 def wire_length(design, places):

@@ -12,6 +12,8 @@ weight of 1 to 4. SEED, by default 1, is where the numbers without a pattern beg
 END `clock` gives the same with a further net that has a pin at each cell, and `buses` with a further net for each 100 cells, which
 has pins at 500 of them.
 
+END `overlap` gives the same as `local`, but two of the macros, by `.nodes`, and all pads, by `.pl`, allow overlap.
+
 END `row` gives a design of COUNT subrows, 8 sites each, side by side in one row, under a fiftieth as many fixed blocks that are as
 high as the row, with as many cells, 1 wide, in a chain between two pads.
 
@@ -124,9 +126,11 @@ def local():
     pads += [(f"b{c}", 4 * c + 2, 0, core.beside(0, c)) for c in range(0, core.columns, 4)]
     pads += [(f"t{c}", 4 * c + 2, height, core.beside(core.rows - 1, c)) for c in range(0, core.columns, 4)]
     macros = [(f"m{k}", *macro) for k, macro in enumerate(core.macros)]
+    soft = "_NI" if end == "overlap" else ""
     put("nodes", ["UCLA nodes 1.0", f"NumNodes : {count + len(pads) + len(macros)}", f"NumTerminals : {len(pads) + len(macros)}"]
         + [f"\to{i}\t{i % 4 + 1}\t10" for i in range(count)]
-        + [f"\t{name}\t{4 * (right - left)}\t{10 * (top - bottom)}\tterminal" for name, bottom, left, top, right in macros]
+        + [f"\t{name}\t{4 * (right - left)}\t{10 * (top - bottom)}\tterminal{soft if name in ('m0', 'm2') else ''}"
+           for name, bottom, left, top, right in macros]
         + [f"\t{name}\t0\t0\tterminal" for name, _, _, _ in pads])
     nets = list(local_nets(core, numbers))
     nets += [[(name, 4), (f"o{cell}", 4)] for name, _, _, cell in pads]
@@ -146,7 +150,7 @@ def local():
         x, y = 4 * c + (bits & 31) / 4 - 2, 10 * r + (bits >> 5 & 63) / 4 - 5
         lines.append(f"o{i}\t{x:.6f}\t{y:.6f}\t: N")
     lines += [f"{name}\t{4 * left}\t{10 * bottom}\t: N /FIXED" for name, bottom, left, _, _ in macros]
-    lines += [f"{name}\t{x}\t{y}\t: N /FIXED" for name, x, y, _ in pads]
+    lines += [f"{name}\t{x}\t{y}\t: N /FIXED{soft}" for name, x, y, _ in pads]
     put("pl", lines)
     put("scl", rows_of(core.rows, 10, width))
 
@@ -168,7 +172,7 @@ def one_row():
 
 OFFSETS = [offset(bits) for bits in range(8)]
 put("aux", ["RowBasedPlacement : d.nodes d.nets d.wts d.pl d.scl"])
-if end in ("local", "clock", "buses"):
+if end in ("local", "clock", "buses", "overlap"):
     local()
 elif end == "row":
     one_row()
