@@ -1,4 +1,5 @@
-//! The levels by hand in plain Rust: the core is cut over and over, and each level solved against the one before.
+//! The levels by hand in plain Rust: the core is cut over and over, and each level solved in some rounds, each against the mids of
+//! the round before.
 
 use crate::design::Design;
 use crate::network::Network;
@@ -6,10 +7,12 @@ use crate::projection::{Sum, project};
 use crate::regions::Regions;
 use crate::solving::{Method, System};
 
-/// How a run goes: how often the core is cut, with how many seats, where by a crew, and whether it tells its work.
+/// How a run goes: how often the core is cut, in how many rounds each level is solved, with how many seats, where by a crew, and
+/// whether it tells its work.
 #[derive(Clone, Copy)]
 pub struct Way {
     pub levels: u32,
+    pub passes: u32,
     pub seats: Option<usize>,
     pub method: Method,
     pub tell: bool,
@@ -18,13 +21,14 @@ pub struct Way {
 /// The lower and the upper vector of an axis.
 pub type Solved = [Vec<u64>; 2];
 
-/// The last level's vectors on x and on y, and how far two entries stand apart at most in any level.
+/// The last round's vectors on x and on y, and how far two entries stand apart at most in any round.
+#[derive(Default)]
 pub struct Placed {
     pub last: [Solved; 2],
     pub gap: u64,
 }
 
-/// The levels of a network.
+/// The rounds of a network.
 pub fn solve_all(network: &Network, design: &Design, way: &Way) -> Placed {
     let tops = tops(design);
     if fits_narrow(network, tops) {
@@ -49,15 +53,19 @@ pub fn fits_narrow(network: &Network, tops: [u64; 2]) -> bool {
 fn solve_levels<S: Sum>(network: &Network, tops: [u64; 2], way: &Way) -> Placed {
     let points = network.points();
     let mut regions = Regions::whole(points, tops);
-    let mut last = solve_level::<S>(network, &regions, &[vec![0; points], vec![0; points]], way);
-    let mut gap = gap_of(&last);
-    for _ in 0..way.levels {
-        let mids = [0, 1].map(|axis| halfway(&last[axis]));
-        regions = regions.cut(&network.areas, &mids);
-        last = solve_level::<S>(network, &regions, &mids, way);
-        gap = gap.max(gap_of(&last));
+    let mut mids = [vec![0; points], vec![0; points]];
+    let mut placed = Placed::default();
+    for level in 0..=way.levels {
+        if level > 0 {
+            regions = regions.cut(&network.areas, &mids);
+        }
+        for _ in 0..way.passes {
+            placed.last = solve_round::<S>(network, &regions, &mids, way);
+            placed.gap = placed.gap.max(gap_of(&placed.last));
+            mids = [0, 1].map(|axis| halfway(&placed.last[axis]));
+        }
     }
-    Placed { last, gap }
+    placed
 }
 
 pub fn halfway([lower, upper]: &Solved) -> Vec<u64> {
@@ -73,7 +81,7 @@ fn gap_of(solved: &[Solved; 2]) -> u64 {
     apart(&solved[0]).max(apart(&solved[1]))
 }
 
-fn solve_level<S: Sum>(
+fn solve_round<S: Sum>(
     network: &Network,
     regions: &Regions,
     mids: &[Vec<u64>; 2],

@@ -1,11 +1,12 @@
 //! The whole placer by hand in plain Rust, without its proofs, to measure the proved program against.
 //!
-//! `place_cells [--tell] [--levels N] [--seats N] [--shift K] [--chases P] [--out FILE] (DESIGN | --grid R,C,K)` reads the design beside the aux file, or
-//! makes the texts of a grid, solves it, cuts its core N times (by default 4) and solves each level anew. It puts the cells on
-//! sites and writes the placement to FILE, by default to DESIGN without its `.aux` and with `.proud.pl`, or to `grid.proud.pl`,
-//! and prints how much there is of what, how far the lower and the upper coordinates stand apart at most in any level, and the
-//! wire length. Without `--seats` it solves by plain sweeps; with it, by a crew of that many threads on shared words: with
-//! `--shift K` it begins with K halvings (by default 20), and with `--chases P` a seat makes at most P passes over its marks (by
+//! `place_cells [--tell] [--levels N] [--passes N] [--seats N] [--shift K] [--chases P] [--out FILE] (DESIGN | --grid R,C,K)` reads
+//! the design beside the aux file, or makes the texts of a grid, solves it, cuts its core as often as `--levels` says (by default 4)
+//! and solves each level as often as `--passes` says (by default twice), each time against the mids of the time before. It puts the
+//! cells on sites and writes the placement to FILE, by default to DESIGN without its `.aux` and with `.proud.pl`, or to
+//! `grid.proud.pl`, and prints how much there is of what, how far the lower and the upper coordinates stand apart at most in any
+//! round, and the wire length. Without `--seats` it solves by plain sweeps; with it, by a crew of that many threads on shared words:
+//! with `--shift K` it begins with K halvings (by default 20), and with `--chases P` a seat makes at most P passes over its marks (by
 //! default 64). With `--tell`, standard error gets the sweeps, or the relaxations of each seat.
 //!
 //! `place_cells --steps [--times N] [--levels N] [--schedule FILE [--seats N]] (DESIGN | --grid R,C,K)` times each step once, and
@@ -55,6 +56,9 @@ struct Asked {
     grid: Option<String>,
 }
 
+/// How many rounds a run may have.
+const MOST_ROUNDS: u32 = 26;
+
 /// How many threads the machine runs at once.
 fn threads() -> usize {
     std::thread::available_parallelism().map_or(1, usize::from)
@@ -99,6 +103,7 @@ fn words() -> Option<Asked> {
     let mut asked = Asked {
         way: Way {
             levels: 4,
+            passes: 2,
             seats: None,
             method: Method {
                 shift: 20,
@@ -134,6 +139,10 @@ fn words() -> Option<Asked> {
                 let levels = words.next()?.parse().ok();
                 asked.way.levels = levels.filter(|levels| *levels <= 12)?;
             }
+            "--passes" => {
+                let passes = words.next()?.parse().ok();
+                asked.way.passes = passes.filter(|passes| (1..=8).contains(passes))?;
+            }
             "--seats" => {
                 let seats = words.next()?.parse().ok();
                 asked.way.seats = Some(seats.filter(|seats| (1..=64).contains(seats))?);
@@ -142,7 +151,7 @@ fn words() -> Option<Asked> {
             _ => return None,
         }
     }
-    Some(asked)
+    ((asked.way.levels + 1) * asked.way.passes <= MOST_ROUNDS).then_some(asked)
 }
 
 /// The texts that are asked for, and where their placement usually goes.
@@ -164,7 +173,7 @@ fn refused(line: &str) -> ExitCode {
 
 fn usage() -> ExitCode {
     println!(
-        "usage: place_cells [--tell] [--levels N] [--seats N] [--shift K] [--chases P] [--out FILE] (DESIGN | --grid R,C,K)"
+        "usage: place_cells [--tell] [--levels N] [--passes N] [--seats N] [--shift K] [--chases P] [--out FILE] (DESIGN | --grid R,C,K)"
     );
     ExitCode::from(1)
 }

@@ -71,7 +71,7 @@ fn homes_of(regions: &Regions) -> Vec<u32> {
     homes
 }
 
-/// The projection of a network over regions, with the mids of the level before.
+/// The projection of a network over regions, with the mids of the round before.
 pub fn project<S: Sum>(
     network: &Network,
     regions: &Regions,
