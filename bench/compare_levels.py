@@ -2,8 +2,8 @@
 """Runs programs on small random designs, and compares what they answer with what levels.py finds.
 
 compare_levels.py [--count N] [--seed K] PROGRAM .., by default 200 designs. Each program, which may have options
-behind its name, is run as PROGRAM --levels N AUX. Compared are its status, what it prints, and the placement that it makes
-beside the design, which is looked at by legal.py too.
+behind its name, is run as PROGRAM --levels N --passes N AUX. Compared are its status, what it prints, and the placement that it
+makes beside the design, which is looked at by legal.py too.
 
 The designs have cores from a millionth to some hundred thousand units wide, so that means round, mids tie, sides of regions
 come to 0, and sums pass 64 bits; pads inside the core and far outside, cells of no width, nets with a node twice, nets of
@@ -92,7 +92,7 @@ def random_design(rng):
     wide = [subrow for subrow in subrows if subrow[2] > 0]
     left, right = min(x for x, _, _ in wide), max(x + sites * pitch for x, _, sites in wide)
     bottom, top = min(y for _, y, _ in wide), max(y for _, y, _ in wide) + height
-    cells = [f"c{i}" for i in range(rng.randint(0, 14))]
+    cells = [f"c{i}" for i in range(rng.randint(0, rng.choice([14, 14, 40])))]
     pads = [f"p{i}" for i in range(rng.choice([1, 2, 3, 4, 18]))]
     clear = rng.random() < 0.2
     blocks = [] if clear else [f"b{i}" for i in range(rng.randint(0, 3))]
@@ -131,10 +131,16 @@ def random_design(rng):
     }
 
 
-def answer_of(program, aux, number):
+def random_counts(rng):
+    """How many levels, and rounds of each: at most 26 together."""
+    number = rng.choice([0, 1, 2, 3, 4, 4, 12])
+    return number, rng.choice([passes for passes in (1, 2, 2, 3, 4, 8) if (number + 1) * passes <= 26])
+
+
+def answer_of(program, aux, number, passes):
     """What a program answers, in the form of levels.answer; in place of a placement that is not legal, why it is not."""
     made = aux.removesuffix(".aux") + ".proud.pl"
-    run = subprocess.run([*program.split(), "--levels", str(number), aux], stdout=subprocess.PIPE)
+    run = subprocess.run([*program.split(), "--levels", str(number), "--passes", str(passes), aux], stdout=subprocess.PIPE)
     if not os.path.exists(made):
         return run.returncode, run.stdout, None
     with open(made, "rb") as file:
@@ -157,15 +163,15 @@ def main():
             for name, lines in random_design(rng).items():
                 with open(os.path.join(folder, name), "w") as file:
                     file.writelines(line + "\n" for line in lines)
-            aux, number = os.path.join(folder, "d.aux"), rng.choice([0, 1, 2, 3, 4, 4, 12])
-            due = levels.answer(aux, number)
+            aux, (number, passes) = os.path.join(folder, "d.aux"), random_counts(rng)
+            due = levels.answer(aux, number, passes)
             placed += due[0] == 0
             overlap += b" /FIXED_NI\n" in (due[2] or b"")
             for program in options.programs:
-                answer = answer_of(program, aux, number)
+                answer = answer_of(program, aux, number, passes)
                 if answer != due:
                     failed += 1
-                    print(f"seed {seed}, {number} levels, {program}: {answer} instead of {due}")
+                    print(f"seed {seed}, {number} levels, {passes} passes, {program}: {answer} instead of {due}")
     print(f"{options.count} designs, {placed} placed, {overlap} of them with nodes that allow overlap; {failed} answers differ")
     return min(failed, 1)
 

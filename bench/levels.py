@@ -1,10 +1,10 @@
 #!/usr/bin/env python3
 """What the program makes of a design, found once more: small and slow, in exact integers, straight from the rules.
 
-levels.py [--levels N] [--out FILE] AUX, by default 4 levels; FILE is by default AUX without its .aux and with .proud.pl. It
-shares nothing with place_cells.rs: it sums a weight for each pair of points, renews all entries of a vector at once until none
-moves, tests each site against each fixed node, and looks at each segment for each cell. It tests no design: a fault in one ends
-in some error of Python. compare_levels.py runs other programs beside it.
+levels.py [--levels N] [--passes N] [--out FILE] AUX, by default 4 levels and 2 rounds of each; FILE is by default AUX without its
+.aux and with .proud.pl. It shares nothing with place_cells.rs: it sums a weight for each pair of points, renews all entries of a
+vector at once until none moves, tests each site against each fixed node, and looks at each segment for each cell. It tests no
+design: a fault in one ends in some error of Python. compare_levels.py runs other programs beside it.
 """
 import argparse
 import itertools
@@ -187,12 +187,12 @@ def cut(network, region, mids):
     return [part((low, line), order[:count]), part((line, high), order[count:])]
 
 
-def levels(network, number):
-    """For each level, and for each axis, the two vectors."""
+def rounds(network, number, passes):
+    """For each round, and for each axis, the two vectors. The regions of a level are cut by the mids of its last round."""
     regions = [Region(list(network.core), list(range(len(network.near))))]
     mids = [[None] * len(network.near)] * 2
-    for level in range(number + 1):
-        if level > 0:
+    for turn in range((number + 1) * passes):
+        if turn > 0 and turn % passes == 0:
             regions = [part for region in regions for part in cut(network, region, mids)]
         axes = [list(systems(network, axis, regions, mids)) for axis in (0, 1)]
         solved = [(least(system), greatest(system)) for system in axes]
@@ -297,11 +297,11 @@ def text(lines):
     return "".join(line + "\n" for line in lines).encode(errors="surrogateescape")
 
 
-def answer(aux, number):
-    """For a design with so many levels: the status, the bytes that are printed, and those of the placement or None."""
+def answer(aux, number, passes):
+    """With so many levels, and rounds of each: the status, the bytes that are printed, and those of the placement or None."""
     design = Design(aux)
     network = Network(design)
-    found = list(levels(network, number))
+    found = list(rounds(network, number, passes))
     try:
         places = corners(design, network, found[-1])
     except NoRoom as fault:
@@ -316,10 +316,11 @@ def answer(aux, number):
 def main():
     parser = argparse.ArgumentParser()
     parser.add_argument("--levels", type=int, default=4)
+    parser.add_argument("--passes", type=int, default=2)
     parser.add_argument("--out")
     parser.add_argument("aux")
     options = parser.parse_args()
-    status, printed, made = answer(options.aux, options.levels)
+    status, printed, made = answer(options.aux, options.levels, options.passes)
     if made is not None:
         with open(options.out or options.aux.removesuffix(".aux") + ".proud.pl", "wb") as file:
             file.write(made)
