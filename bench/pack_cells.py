@@ -1,5 +1,5 @@
 #!/usr/bin/env python3
-"""Writes some legal placement of a design without fixed blocks: pack_cells.py AUX PLACEMENT [STEP].
+"""Writes some legal placement of a design without fixed blocks, but for such as allow overlap: pack_cells.py AUX PLACEMENT [STEP].
 
 The cells fill the rows in the order of their names' numbers in `.nodes`, from STEP times their number on, one beside the other.
 """
@@ -25,7 +25,7 @@ lines = ["UCLA pl 1.0"]
 for node, name in enumerate(design.nodes.names):
     if design.nodes.fixed[node]:
         x, y = decimal(design.given.x[node]), decimal(design.given.y[node])
-        lines.append(f"{name} {x} {y} : {design.given.turned[node]} /FIXED")
+        lines.append(f"{name} {x} {y} : {design.given.turned[node]}{design.nodes.mark(node)}")
     else:
         lines.append("{} {} {} : N".format(name, *places[node]))
 write_whole(sys.argv[2], lines)

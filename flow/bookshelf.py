@@ -21,6 +21,9 @@ WHOLE = re.compile(r"[0-9]{1,30}")
 KINDS = "nodes", "nets", "wts", "pl", "scl"
 DIRECTIONS = "I", "O", "B", "i", "o", "b"
 TURNS = "N", "S", "E", "W", "FN", "FS", "FE", "FW"
+# The marks of a fixed node in `.nodes` and in `.pl`, in small letters, and whether each says that the node allows overlap.
+NODE_MARKS = {"terminal": False, "terminal_ni": True}
+PLACE_MARKS = {"/fixed": False, "/fixed_ni": True}
 
 
 class Fault(Exception):
@@ -127,13 +130,18 @@ class Rectangle(NamedTuple):
 
 @dataclass
 class Nodes:
-    """A list for each property, with an entry for each node, in the order of `.nodes`."""
+    """A list for each property, with an entry for each node, in the order of `.nodes`. A fixed node may allow overlap."""
 
     names: List[str]
     width: List[int]
     height: List[int]
     fixed: List[bool]
+    overlap: List[bool]
     number: Dict[str, int]
+
+    def mark(self, node: int) -> str:
+        """What stands behind the node's line in a placement."""
+        return " /FIXED_NI" if self.overlap[node] else " /FIXED" if self.fixed[node] else ""
 
 
 @dataclass
@@ -200,6 +208,10 @@ class Design:
     def is_block(self, node: int) -> bool:
         """Whether a node is fixed and shares area with the core. Any other fixed node is drawn and written as a pad."""
         return self.nodes.fixed[node] and self.rows.core.shares_area(self.rectangle(node, self.given))
+
+    def bars(self, node: int) -> bool:
+        """Whether no cell may stand there: it is a block that forbids overlap."""
+        return self.is_block(node) and not self.nodes.overlap[node]
 
 
 def content(path: str, kind: str) -> Iterator[Tuple[int, List[str]]]:
@@ -275,11 +287,12 @@ def read_names(aux: str) -> Dict[str, str]:
 
 
 def read_nodes(path: str) -> Nodes:
-    nodes, counts = Nodes([], [], [], [], {}), Counts(path, "numnodes", "numterminals")
+    nodes, counts = Nodes([], [], [], [], [], {}), Counts(path, "numnodes", "numterminals")
     for number, words in content(path, "nodes"):
         if counts.take(number, words):
             continue
-        if len(words) not in (3, 4) or (len(words) == 4 and words[3].lower() != "terminal"):
+        mark = words[3].lower() if len(words) == 4 else ""
+        if len(words) not in (3, 4) or (mark and mark not in NODE_MARKS):
             raise Fault(f"{path}:{number}: bad line")
         width, height = numbers(path, number, words[1], words[2])
         if width < 0 or height < 0:
@@ -290,7 +303,8 @@ def read_nodes(path: str) -> Nodes:
         nodes.names.append(words[0])
         nodes.width.append(width)
         nodes.height.append(height)
-        nodes.fixed.append(len(words) == 4)
+        nodes.fixed.append(mark in NODE_MARKS)
+        nodes.overlap.append(NODE_MARKS.get(mark, False))
     counts.compare(numnodes=len(nodes.names))
     return nodes
 
@@ -341,13 +355,16 @@ def check_degree(path: str, number: int, nets: Nets, degree: int) -> None:
         raise Fault(f"{path}:{number}: the net before has {found} pins instead of {degree}")
 
 
-def read_places(path: str, nodes: Nodes) -> Tuple[Placement, Set[int]]:
-    """Where the file puts each node, and which nodes it marks as fixed. A node without a line is lost, at (0, 0)."""
+def read_places(path: str, nodes: Nodes) -> Tuple[Placement, Dict[int, bool]]:
+    """Where the file puts each node, and of those that it marks as fixed whether they allow overlap, by their last lines.
+
+    A node without a line is lost, at (0, 0).
+    """
     count = len(nodes.names)
-    placement, fixed = Placement(path, [0] * count, [0] * count, ["N"] * count, set(range(count))), set()
+    placement, marks = Placement(path, [0] * count, [0] * count, ["N"] * count, set(range(count))), {}
     for number, words in content(path, "pl"):
-        marked = words[-1].lower() == "/fixed"
-        rest = words[3:-1] if marked else words[3:]
+        overlap = PLACE_MARKS.get(words[-1].lower())
+        rest = words[3:] if overlap is None else words[3:-1]
         if len(words) < 3 or (rest and (len(rest) != 2 or rest[0] != ":" or rest[1].upper() not in TURNS)):
             raise Fault(f"{path}:{number}: bad line")
         x, y = numbers(path, number, words[1], words[2])
@@ -356,8 +373,10 @@ def read_places(path: str, nodes: Nodes) -> Tuple[Placement, Set[int]]:
             raise Fault(f"{path}:{number}: unknown name {words[0]}")
         placement.x[node], placement.y[node], placement.turned[node] = x, y, rest[1].upper() if rest else "N"
         placement.lost.discard(node)
-        (fixed.add if marked else fixed.discard)(node)
-    return placement, fixed
+        marks.pop(node, None)
+        if overlap is not None:
+            marks[node] = overlap
+    return placement, marks
 
 
 def read_rows(path: str) -> Rows:
@@ -421,11 +440,12 @@ def read_design(aux: str) -> Design:
     files = read_names(aux)
     nodes = read_nodes(files["nodes"])
     nets = read_nets(files["nets"], nodes.number)
-    given, marked = read_places(files["pl"], nodes)
+    given, marks = read_places(files["pl"], nodes)
     for node, is_terminal in enumerate(nodes.fixed):
         if is_terminal and node in given.lost:
             raise Fault(f"{files['pl']}: node {nodes.names[node]}: no position")
-        nodes.fixed[node] = is_terminal or node in marked
+        nodes.fixed[node] = is_terminal or node in marks
+        nodes.overlap[node] = nodes.overlap[node] or marks.get(node, False)
     given.lost.clear()
     name = os.path.basename(aux)
     return Design(name[:-4] if name.lower().endswith(".aux") else name, nodes, nets, read_rows(files["scl"]), given)
@@ -515,7 +535,8 @@ def site_fault(design: Design, placement: Placement, node: int, subrows: List[Su
 
 
 def overlaps(design: Design, placement: Placement) -> List[Tuple[str, str]]:
-    """Pairs of names that share area, of which one at least is a cell's, whose area is that of its sites.
+    """Pairs of names that share area, of which one at least is a cell's, whose area is that of its sites, and none of a node that
+    allows overlap.
 
     It goes through bands as high as a row, from left to right, and stops at the first partner of a node in a band, so that a
     heap of cells at one place doesn't cost its square.
@@ -526,7 +547,8 @@ def overlaps(design: Design, placement: Placement) -> List[Tuple[str, str]]:
         area = design.rectangle(node, placement)
         if not nodes.fixed[node]:
             area = Rectangle(area.left, area.lower, area.left + design.sites(node) * design.rows.pitch, area.lower + height)
-        if node not in placement.lost and area.left < area.right and area.lower < area.upper:
+        solid = node not in placement.lost and not nodes.overlap[node]
+        if solid and area.left < area.right and area.lower < area.upper:
             for band in range(area.lower // height, -(-area.upper // height)):
                 bands.setdefault(band, []).append((area, node))
     pairs = set()

@@ -4,12 +4,14 @@
 wire      the half-perimeter wire length of all nets, unweighted, in Bookshelf units; pins stand at their offsets from the
           middle of their node
 ratio     wire by that of the first placement
-legal     whether each cell is in sites of a subrow, without area in common with a fixed node or another cell's sites, and
-          fixed nodes stand and all are turned as in the design; else how many faults there are, which are told below the table
+legal     whether each cell is in sites of a subrow, without area in common with a fixed node that forbids overlap or with
+          another cell's sites, and fixed nodes stand and all are turned as in the design; else how many faults there are, which
+          are told below the table
 mean, max how far cells stand from where the first placement has them, |dx| + |dy|, in Bookshelf units: of all cells, and of
           the one that is the farthest
-density   that of the fullest bin: the area of its cells by the area of its sites that are free of fixed nodes. A legal
-          placement has 1 at most. The core is cut into square bins from its lower left corner, as high as --bin rows
+density   that of the fullest bin: the area of its cells by the area of its sites that are free of fixed nodes which forbid
+          overlap. A legal placement has 1 at most. The core is cut into square bins from its lower left corner, as high as --bin
+          rows
 
 Status 0: all placements are legal. Status 1: one isn't. Status 2: one line says what is wrong with an input.
 """
@@ -53,7 +55,7 @@ class Bins:
     def __init__(self, design: Design, side: int):
         self.core, self.side = design.rows.core, side
         self.free: Dict[Bin, int] = {}
-        blocks = [design.rectangle(node, design.given) for node in range(len(design.nodes.names)) if design.is_block(node)]
+        blocks = [design.rectangle(node, design.given) for node in range(len(design.nodes.names)) if design.bars(node)]
         rows = design.rows
         for row in rows.subrows:
             area = Rectangle(row.x, row.y, row.x + row.sites * rows.pitch, row.y + rows.height)

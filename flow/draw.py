@@ -2,9 +2,9 @@
 """Draws a placed design as an SVG, which a browser shows without anything else.
 
 Shown are the rows, the fixed blocks, the pads, the cells, and a legend with the wire length. A fixed node is a block where it
-shares area with the core, and else a pad; pads smaller than a mark are drawn as marks. --longest and --net draw nets, each in a
-colour of its own, as lines from each pin to the middle of its pins; their cells stand out. Without PLACED.pl the cells stand
-where the design's own `.pl` has them.
+shares area with the core, and else a pad; pads smaller than a mark are drawn as marks. Those that allow overlap are lighter and
+dashed, and cells may stand over such a block. --longest and --net draw nets, each in a colour of its own, as lines from each pin
+to the middle of its pins; their cells stand out. Without PLACED.pl the cells stand where the design's own `.pl` has them.
 
 Status 0: OUT.svg is written. Status 2: one line says what is wrong with an input.
 """
@@ -12,6 +12,7 @@ from __future__ import annotations
 
 import argparse
 import os
+from collections import Counter
 from typing import Iterable, Iterator, List, Set, Tuple
 from xml.sax.saxutils import escape
 
@@ -20,7 +21,8 @@ from bookshelf import (MICRO, Design, Fault, Placement, Rectangle, decimal, net_
 
 SIDE, MARGIN, LEGEND = 900, 20, 280
 LISTED = 24
-COLOURS = {"row": "#eef1f5", "block": "#9aa5b5", "cell": "#8fbbe8", "chosen": "#f5b942", "pad": "#2f3b4c"}
+COLOURS = {"row": "#eef1f5", "block": "#9aa5b5", "cell": "#8fbbe8", "chosen": "#f5b942", "pad": "#2f3b4c",
+           "open-block": "#dde2e9", "open-pad": "#b4bdc9"}
 NET_COLOURS = "#c0392b", "#1e8449", "#7d3c98", "#b9770e", "#117a65", "#a93226", "#1f618d", "#6c3483"
 
 
@@ -53,11 +55,21 @@ def piece(area: Rectangle) -> str:
     return f"M{decimal(area.left)} {decimal(area.lower)}h{width}v{decimal(area.upper - area.lower)}h-{width}z"
 
 
+def kind_of(design: Design, node: int) -> str:
+    """What a node is drawn as. A fixed node is open where it allows overlap."""
+    if not design.nodes.fixed[node]:
+        return "cell"
+    return "open-" * design.nodes.overlap[node] + ("block" if design.is_block(node) else "pad")
+
+
 def path(kind: str, areas: Iterable[Rectangle], stroke: float) -> Iterator[str]:
     """All of these rectangles as one path, a line for each."""
     pieces = [piece(area) for area in areas]
     if pieces:
-        yield f'<path class="{kind}" fill="{COLOURS[kind]}" stroke="#ffffff" stroke-width="{stroke:.6g}" d="'
+        edge = 'stroke="#ffffff"'
+        if kind.startswith("open-"):
+            edge = f'stroke="{COLOURS[kind[len("open-"):]]}" stroke-dasharray="{6 * stroke:.6g} {4 * stroke:.6g}"'
+        yield f'<path class="{kind}" fill="{COLOURS[kind]}" {edge} stroke-width="{stroke:.6g}" d="'
         yield from pieces
         yield '"/>'
 
@@ -92,15 +104,12 @@ def drawing(design: Design, placement: Placement, view: View, chosen: List[int])
     rows, fixed = design.rows, design.nodes.fixed
     stroke = rows.height / MICRO / 25
     marked = nodes_of(design, chosen)
-    groups = {"block": [], "cell": [], "chosen": [], "pad": []}
+    groups = {"open-block": [], "block": [], "cell": [], "chosen": [], "open-pad": [], "pad": []}
     for node in range(len(fixed)):
-        area = design.rectangle(node, placement)
-        if not fixed[node]:
-            groups["chosen" if node in marked else "cell"].append(area)
-        elif design.is_block(node):
-            groups["block"].append(area)
-        else:
-            groups["pad"].append(as_mark(area, view.mark))
+        area, kind = design.rectangle(node, placement), kind_of(design, node)
+        if kind == "cell" and node in marked:
+            kind = "chosen"
+        groups[kind].append(as_mark(area, view.mark) if kind.endswith("pad") else area)
     subrows = [Rectangle(row.x, row.y, row.x + row.sites * rows.pitch, row.y + rows.height) for row in rows.subrows]
     yield f'<g transform="{view.transform()}">'
     yield from path("row", subrows, stroke)
@@ -120,14 +129,15 @@ def shown(text: str, most: int = 40) -> str:
 def legend_lines(design: Design, placement: Placement, lengths: List[int], chosen: List[int]) -> Iterator[Tuple[str, str]]:
     """The legend: of each line its colour, if it has one, and its text."""
     nodes = design.nodes
-    pads = sum(1 for node, fixed in enumerate(nodes.fixed) if fixed and not design.is_block(node))
-    blocks, cells = sum(nodes.fixed) - pads, len(nodes.names) - sum(nodes.fixed)
+    kinds = Counter(kind_of(design, node) for node in range(len(nodes.names)))
     yield "", f"wire length {decimal(sum(lengths))}"
     yield "", f"nets {len(lengths)}, pins {len(design.nets.node)}"
-    yield COLOURS["cell"], f"cells {cells}"
-    yield COLOURS["pad"], f"pads {pads}"
-    if blocks:
-        yield COLOURS["block"], f"fixed blocks {blocks}"
+    yield COLOURS["cell"], f"cells {kinds['cell']}"
+    yield COLOURS["pad"], f"pads {kinds['pad']}"
+    for kind, told in (("open-pad", "pads that allow overlap"), ("block", "fixed blocks"),
+                       ("open-block", "blocks that allow overlap")):
+        if kinds[kind]:
+            yield COLOURS[kind], f"{told} {kinds[kind]}"
     yield COLOURS["row"], f"rows {len({row.y for row in design.rows.subrows})}"
     if chosen:
         on_nets = sum(1 for node in nodes_of(design, chosen) if not nodes.fixed[node])

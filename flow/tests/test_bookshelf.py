@@ -62,11 +62,33 @@ class Designs(Case):
         self.assertEqual({design.nodes.names[node] for node in placement.lost}, {"f1", "g2"})
         self.assertIsNone(wire_length(design, placement))
 
+    def test_either_file_says_who_is_fixed_and_who_allows_overlap(self):
+        aux = self.chip()
+        nodes, places = self.read("chip", "chip.nodes"), self.read("chip", "chip.pl")
+        # g3 is movable. Of its lines in `.pl` the last one counts.
+        for mark, lines, fixed, overlap in (
+                ("", ["g3 6 10"], False, False), (" terminal", ["g3 6 10"], True, False), ("", ["g3 6 10 /FIXED"], True, False),
+                (" terminal_NI", ["g3 6 10"], True, True), ("", ["g3 6 10 : FN /FIXED_NI"], True, True),
+                (" Terminal_ni", ["g3 6 10 /FIXED"], True, True), (" TERMINAL", ["g3 6 10 /fixed_Ni"], True, True),
+                ("", ["g3 6 10 /FIXED_NI", "g3 6 10 /FIXED"], True, False),
+                ("", ["g3 6 10 /FIXED_NI", "g3 6 10 : S"], False, False),
+                ("", ["g3 6 10 /FIXED", "g3 6 10 /FIXED_NI"], True, True)):
+            with self.subTest(mark + " ".join(lines)):
+                self.write("chip/chip.nodes", nodes.replace("\tg3 4 10", "\tg3 4 10" + mark))
+                self.write("chip/chip.pl", places + "\n".join(lines) + "\n")
+                its = read_design(aux).nodes
+                g3 = its.number["g3"]
+                self.assertEqual((its.fixed[g3], its.overlap[g3]), (fixed, overlap))
+                self.assertEqual(its.mark(g3), " /FIXED_NI" if overlap else " /FIXED" if fixed else "")
+                self.assertEqual(sum(its.overlap), overlap)
+
     def test_faults_are_told_at_their_line(self):
         aux = self.chip()
         for ending, old, new, told in (
                 ("nodes", "\tg2 4 10", "\tg1 4 10", "chip.nodes:6: name given twice: g1"),
                 ("nodes", "\tg2 4 10", "\tg2 4 ten", "chip.nodes:6: bad number ten"),
+                ("nodes", "\tg2 4 10", "\tg2 4 10 terminal_N", "chip.nodes:6: bad line"),
+                ("nodes", "\tg2 4 10", "\tg2 4 10 /FIXED_NI", "chip.nodes:6: bad line"),
                 ("nodes", "\tg2 4 10", "", "numnodes 8, but there are 7"),
                 ("nodes", "UCLA nodes", "UCLA nets", "chip.nodes:1: bad header"),
                 ("nets", "\tg2 I", "\tg9 I", "unknown name g9"),
@@ -74,6 +96,8 @@ class Designs(Case):
                 ("nets", "\tg1 I : -1.5 -3", "\tg1 I : -1.5", "bad line"),
                 ("pl", "clk 10 20 : N /FIXED\n", "", "node clk: no position"),
                 ("pl", "g1 0 0 : N", "g1 0 0 : M", "chip.pl:2: bad line"),
+                ("pl", "g1 0 0 : N", "g1 0 0 : N /FIXED_N", "chip.pl:2: bad line"),
+                ("pl", "g1 0 0 : N", "g1 0 0 terminal_NI", "chip.pl:2: bad line"),
                 ("scl", "  Height : 10", "  Height : 0", "chip.scl:5: bad number 0"),
                 ("scl", "  Sitespacing : 2", "  Sitespacing : 3", "rows of several heights or pitches"),
                 ("scl", "NumSites : 10", "NumSites : ten", "bad line"),

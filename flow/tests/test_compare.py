@@ -85,12 +85,27 @@ class Compare(Case):
         printed, _ = self.script("compare.py", aux, "placed.pl", "--bin", "2", "--json")
         self.assertEqual(json.loads(printed)["placements"][0]["density"], {"greatest": 190 / 400, "bin": [0, 0]})
 
-    def test_density_goes_by_free_sites(self):
-        # A block from 7 to 9 takes the sites from 6 to 10 of the row at 10: 5 sites of 2 less 2 are free in its left half.
+    def chip_with_a_block(self, mark):
+        """The hand-made design with a block from 7 to 9 in the row at 10."""
         aux = self.chip()
-        for ending, line in (("nodes", "\tblock 2 10 terminal"), ("pl", "block 7 10 : N /FIXED")):
+        for ending, line in (("nodes", f"\tblock 2 10 {mark}"), ("pl", "block 7 10 : N /FIXED")):
             text = self.read("chip", "chip." + ending).replace("NumNodes : 8", "NumNodes : 9").rstrip("\n")
             self.write("chip/chip." + ending, f"{text}\n{line}\n")
+        return aux
+
+    def test_cells_may_stand_over_a_block_that_allows_overlap(self):
+        aux = self.chip_with_a_block("terminal_NI")
+        self.write("over.pl", PLACED.replace("g3 0 10", "g3 6 10") + "block 7 10 : N /FIXED_NI\n")
+        (found,) = self.compared(aux, "over.pl", "--bin", "2")
+        # Its sites are free, so all 400 of the bin's area are.
+        self.assertEqual((found["legal"], found["density"]["greatest"]), (True, 190 / 400))
+        self.write("moved.pl", PLACED + "block 8 10 : N /FIXED_NI\n")
+        (found,) = self.compared(aux, "moved.pl", status=1)
+        self.assertEqual([fault["line"] for fault in found["faults"]], ["block is fixed and was moved"])
+
+    def test_density_goes_by_free_sites(self):
+        # The block takes the sites from 6 to 10: 5 sites of 2 less 2 are free in its row's left half.
+        aux = self.chip_with_a_block("terminal")
         self.write("more.pl", PLACED + "block 7 10 : N /FIXED\n")
         printed, _ = self.script("compare.py", aux, "more.pl", "--bin", "2", "--json")
         self.assertEqual(json.loads(printed)["placements"][0]["density"]["greatest"], 190 / 360)
@@ -121,11 +136,21 @@ class Beside(Case):
                 copy = shutil.copytree(files, self.path("copy of " + folder))
                 yield next(os.path.join(copy, name) for name in os.listdir(copy) if name.endswith(".aux"))
 
+    def opened(self):
+        """A design in which some pads, and a block over the sites of a row, allow overlap, with its placement."""
+        copy = shutil.copytree(os.path.join(TOP, "designs", "macro_block"), self.path("opened"))
+        for name, word, mark in (("macro_block.nodes", "pad_q", "terminal"), ("macro_block.pl", "buf", "/FIXED"),
+                                 ("expected.pl", "pad_q", "/FIXED"), ("expected.pl", "buf", "/FIXED")):
+            lines = self.read("opened", name).split("\n")
+            lines = [line.replace(mark, mark + "_NI") if line.strip().startswith(word) else line for line in lines]
+            self.write("opened/" + name, "\n".join(lines))
+        return os.path.join(copy, "macro_block.aux")
+
     def test_the_same_is_legal_as_in_bench(self):
         # Placements of the designs with some cells moved: for each that is told here something is told there, and the reverse.
         draw = random.Random(20)
         legals = 0
-        for aux in self.folders():
+        for aux in (*self.folders(), self.opened()):
             design = read_design(aux)
             expected = os.path.join(os.path.dirname(aux), "expected.pl")
             with open(expected, encoding="utf-8") as file:
@@ -145,6 +170,15 @@ class Beside(Case):
                 legals += not its
                 self.assertLessEqual(pairs(its), pairs(beside))
         self.assertGreater(legals, 20)
+
+    def test_a_cell_over_a_block_that_allows_overlap_is_legal_in_both(self):
+        aux = self.opened()
+        design, text = read_design(aux), self.read("opened", "expected.pl")
+        for mark, told in (("/FIXED_NI", 0), ("/FIXED", 1)):
+            path = self.write("over.pl", text.replace("mux1 51 66", "mux1 57 66").replace("FS /FIXED_NI", "FS " + mark))
+            self.assertEqual(faults(design, read_placement(path, design)), [])
+            # The gate's own also wants the mark itself.
+            self.assertEqual(len(legal.faults(aux, path)), told)
 
     def test_wire_length_is_that_of_the_report(self):
         program = proud()

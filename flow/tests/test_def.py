@@ -92,6 +92,12 @@ class Def(Case):
                     self.assertIn(places.get(name), (None, [str(int(float(x) * 1000)), str(int(float(y) * 1000))]))
         self.assertIn("FIXED", {words[3] for words in self.made(*self.blocks())[1]["COMPONENTS"]})
 
+    def test_a_block_that_allows_overlap_is_fixed_where_it_stands(self):
+        aux = self.chip()
+        self.write("chip/chip.pl", self.read("chip", "chip.pl") + "g3 6 10 : N /FIXED_NI\n")
+        _, inside = self.made(aux, self.path("chip", "chip.pl"))
+        self.assertIn("g3 GATE + FIXED ( 6000 10000 ) N".split(), inside["COMPONENTS"])
+
     def blocks(self):
         folder = os.path.join(TOP, "designs", "macro_block")
         return os.path.join(folder, "macro_block.aux"), os.path.join(folder, "expected.pl")

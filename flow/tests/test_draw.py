@@ -21,6 +21,7 @@ class Picture:
                       for path in paths if path.get("class") != "net"}
         self.nets = [path.get("d") for path in paths if path.get("class") == "net"]
         self.fills = [path.get("fill") for path in paths if path.get("class") != "net"]
+        self.dashed = [path.get("class") for path in paths if path.get("stroke-dasharray")]
         self.texts = [text.text for text in legend.findall(SVG + "text")]
 
 
@@ -101,6 +102,18 @@ class Draw(Case):
         self.assertEqual(picture.areas["block"], [(58, 66, 4, 12), (34, 30, 20, 24)])
         self.assertEqual(len(picture.areas["cell"]), 12)
         self.assertEqual(len(set(picture.fills)), 4)
+
+    def test_who_allows_overlap_is_dashed_and_blocks_stand_behind_the_cells(self):
+        aux = self.chip()
+        text = self.read("chip", "chip.nodes").replace("clk 0 0 terminal", "clk 0 0 terminal_NI")
+        self.write("chip/chip.nodes", text.replace("NumNodes : 8", "NumNodes : 9") + "\tblock 6 10 terminal\n")
+        self.write("chip/chip.pl", self.read("chip", "chip.pl") + "block 10 0 /FIXED_NI\n")
+        picture = self.picture(aux, self.write("placed.pl", PLACED + "block 10 0 : N /FIXED_NI\n"))
+        self.assertEqual(picture.areas["open-block"], [(10, 0, 6, 10)])
+        self.assertEqual([len(picture.areas[kind]) for kind in ("cell", "pad", "open-pad")], [4, 3, 1])
+        self.assertEqual(list(picture.areas), ["row", "open-block", "cell", "open-pad", "pad"])
+        self.assertEqual(picture.dashed, ["open-block", "open-pad"])
+        self.assertEqual(picture.texts[4:8], ["cells 4", "pads 3", "pads that allow overlap 1", "blocks that allow overlap 1"])
 
 
 if __name__ == "__main__":
