@@ -5,7 +5,7 @@ set -u
 script=$(basename "$0")
 here=$(cd "$(dirname "$(readlink -f "$0")")" && pwd) || exit 70
 lef=$here/cells/cells.lef liberty=$here/cells/cells.lib
-netlist_options=() levels_option=() seats_option=() draw_options=() words=()
+netlist_options=() proud_options=() draw_options=() words=()
 work=
 
 say() { printf '%s: %s\n' "$script" "$*" >&2; }
@@ -36,8 +36,8 @@ All is made in a folder beside OUT, and moved to its place when the last file is
   --leave-out NET     leave out this net, as that of a clock or a reset; may be given again
   --utilization U, --aspect A, --pads FILE, --site NAME
                       the core and its pads, as netlist.py --help says
-  --levels N, --seats N
-                      as proud has them
+  --levels N, --passes N, --seats N
+                      as proud has them, each at most once
   --longest N         draw the N longest nets, too
 
 The program is \$PROUD, or that of this repository or installation, or proud on the PATH. Status 0: all is done. 2: the words or
@@ -52,7 +52,7 @@ read_words() {
                 help
                 exit 0
                 ;;
-            --cells | --liberty | --leave-out | --utilization | --aspect | --pads | --site | --levels | --seats | --longest)
+            --cells | --liberty | --leave-out | --utilization | --aspect | --pads | --site | --levels | --passes | --seats | --longest)
                 [ $# -gt 1 ] || stop 2 "$1 needs a word behind it"
                 take_option "$1" "$2"
                 shift 2
@@ -71,9 +71,7 @@ take_option() {
     case $1 in
         --cells) lef=$2 ;;
         --liberty) liberty=$2 ;;
-        # proud has them in this order alone, and each once.
-        --levels) levels_option=("$1" "$2") ;;
-        --seats) seats_option=("$1" "$2") ;;
+        --levels | --passes | --seats) proud_options+=("$1" "$2") ;;
         --longest) draw_options+=("$1" "$2") ;;
         *) netlist_options+=("$1" "$2") ;;
     esac
@@ -139,8 +137,7 @@ make_design() {
 }
 
 place() {
-    local options=(${levels_option[@]+"${levels_option[@]}"} ${seats_option[@]+"${seats_option[@]}"})
-    "$proud" ${options[@]+"${options[@]}"} "$work/$top.aux" >"$work/$top.report"
+    "$proud" ${proud_options[@]+"${proud_options[@]}"} "$work/$top.aux" >"$work/$top.report"
     local status=$?
     cat "$work/$top.report" >&2
     return $status

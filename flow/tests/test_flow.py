@@ -30,8 +30,9 @@ class Place(Case):
     @needs_proud
     def test_the_examples_from_their_netlists(self):
         for top, left_out in LEFT_OUT.items():
-            # One cut is enough here.
-            printed, _ = self.place(self.example(top + ".json"), top, f"out of {top}/", "--levels", "1", *left_out)
+            # One cut, and one round of each level, are enough here.
+            options = ["--levels", "1", "--passes", "1", *left_out]
+            printed, _ = self.place(self.example(top + ".json"), top, f"out of {top}/", *options)
             self.assertEqual(sorted(os.listdir(self.path("out of " + top))), sorted(f"{top}.{ending}" for ending in ENDINGS))
             self.assertEqual(printed.split("\n")[1].split()[-4:], ["legal", "0", "0", printed.split()[-1]])
             self.script("compare.py", f"out of {top}/{top}.aux", f"out of {top}/{top}.proud.pl")
@@ -61,6 +62,14 @@ class Place(Case):
         self.assertIn("levels 0 ", self.read("out", "uart.report"))
 
     @needs_proud
+    def test_levels_and_passes_reach_the_program(self):
+        wires = set()
+        for passes in ("1", "3"):
+            self.place(self.example("uart.json"), "uart", "out", "--levels", "2", "--passes", passes, *LEFT_OUT["uart"])
+            wires.add(self.read("out", "uart.report").split("wire ")[1])
+        self.assertEqual(len(wires), 2)
+
+    @needs_proud
     def test_what_fails_leaves_all_as_it_was(self):
         self.write("bad.json", "{")
         os.mkdir(self.path("out"))
@@ -68,6 +77,8 @@ class Place(Case):
         uart = self.example("uart.json")
         for words, told in ((["bad.json", "uart", "out"], "broken JSON"), ([uart, "cpu", "out"], "no module cpu"),
                             ([uart, "uart", "out", "--levels", "13"], "usage: proud"),
+                            ([uart, "uart", "out", "--passes", "9"], "usage: proud"),
+                            ([uart, "uart", "out", "--seats", "1", "--seats", "1"], "usage: proud"),
                             ([uart, "uart", "out/uart.def"], "isn't a folder"),
                             ([uart, "uart", "out", "--leave-out", "mist"], "no net mist"),
                             (["none.json", "uart", "out"], "there is no file none.json"),
