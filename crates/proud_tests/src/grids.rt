@@ -1,84 +1,87 @@
 //! Grids in place of a design's files: the numbers of their reports, and one placement for each number of seats.
 
-use crate::designs::{calls_of, words_of};
-use book_outer::{Files, MemFolder, MemSink, OpenGate};
+use book_outer::{Files, MemFolder, OpenGate};
 use book_text::Memory;
-use proud_top::{Status, proud};
+use proud_top::Status;
+use run_cases::{End, calls_of, end_of, sink_of};
 use std::alloc::Global;
 use std::process::Abort;
 use std::test::Fail;
 use std::thread::Threads;
 
-/// What a run on a grid leaves: its folder and its report.
-#[derive(Drop)]
-struct Run {
-    folder: MemFolder,
-    report: MemSink,
-}
-
-/// A run on a grid in an empty folder. The third of the folder's calls fails, so such a run makes and puts its file, and no more.
-fn run_of<R: Threads + Abort + Sync>(
+/// A run by these words for a grid, with the schedule `s` in its folder, in which the call of that number fails.
+pub(crate) fn end_on_grid<R: Threads + Abort + Sync>(
     rt: &R,
     alloc: Global,
-    grid: &str,
-    seats: &str,
-) -> Result<Run, Memory> {
-    let mut folder = MemFolder::new(Files::new(alloc), calls_of(alloc, 3)?);
-    let mut report = MemSink::new(alloc, calls_of(alloc, 0)?);
-    let words = words_of(alloc, &["proud", "--grid", grid, "--seats", seats])?;
-    let status = proud(rt, alloc, &words, &mut folder, &mut report, &OpenGate);
-    assert_eq!(rt; status, Status::Done);
-    Ok(Run { folder, report })
+    words: &[&str],
+    schedule: &[u8],
+    failing: u64,
+) -> Result<End, Memory> {
+    let mut files = Files::new(alloc);
+    files.push("s", schedule)?;
+    let folder = MemFolder::new(files, calls_of(alloc, failing)?);
+    let end = end_of(rt, alloc, words, folder, sink_of(alloc, 0)?, &OpenGate)?;
+    assert_eq!(rt; end.status, Status::Done);
+    Ok(end)
 }
 
-/// A grid, numbers of seats besides one, and what its report begins with.
-const GRIDS: [(&str, &[&str], &[u8]); 4] = [
+/// Asserts that both runs placed the grid, with the same placement and report.
+pub(crate) fn assert_same<R: Abort>(rt: &R, one: &End, other: &End) {
+    let file = one.folder.file("grid.proud.pl");
+    assert!(rt; file.is_some());
+    assert!(rt; other.folder.file("grid.proud.pl") == file);
+    assert!(rt; other.report.written() == one.report.written());
+}
+
+/// Words that ask for a grid, others that ask for the same one, and what its report begins with.
+type Grid = (
+    &'static [&'static str],
+    &'static [&'static [&'static str]],
+    &'static [u8],
+);
+
+const GRIDS: &[Grid] = &[
     (
-        "1,1,0",
-        &["2"],
+        &["proud", "--grid", "1,1,0", "--seats", "1"],
+        &[&["proud", "--grid", "1,1,0", "--seats", "2"]],
         b"cells 1 terminals 4 nets 4 pins 8\nlevels 4 gap ",
     ),
     (
-        "2,3,1",
-        &["4"],
+        &["proud", "--grid", "2,3,1", "--seats", "1"],
+        &[&["proud", "--grid", "2,3,1", "--seats", "4"]],
         b"cells 6 terminals 10 nets 17 pins 34\nlevels 4 gap ",
     ),
     (
-        "12,12,5",
-        &["7", "64"],
+        &["proud", "--grid", "12,12,5", "--seats", "1"],
+        &[
+            &["proud", "--grid", "12,12,5", "--seats", "7"],
+            &["proud", "--grid", "12,12,5", "--seats", "64"],
+        ],
         b"cells 144 terminals 48 nets 312 pins 624\nlevels 4 gap ",
     ),
     (
-        "30,30,7",
-        &["64"],
+        &["proud", "--grid", "30,30,7", "--seats", "1"],
+        &[&["proud", "--grid", "30,30,7", "--seats", "64"]],
         b"cells 900 terminals 120 nets 1860 pins 3720\nlevels 4 gap ",
     ),
 ];
 
-/// The grid's report begins so, and with each number of seats it has the report and the placement that it has with one.
-fn assert_once<R: Threads + Abort + Sync>(
-    rt: &R,
-    alloc: Global,
-    grid: &str,
-    seats: &[&str],
-    begin: &[u8],
-) -> Result<(), Memory> {
-    let first = run_of(rt, alloc, grid, "1")?;
-    let file = first.folder.file("grid.proud.pl");
-    assert!(rt; file.is_some());
-    assert!(rt; first.report.written().starts_with(begin));
-    for number in seats {
-        let other = run_of(rt, alloc, grid, number)?;
-        assert!(rt; other.folder.file("grid.proud.pl") == file);
-        assert!(rt; other.report.written() == first.report.written());
+/// The report begins so, and all of these words bring one placement and one report. The third of the folder's calls fails, so each
+/// run makes and puts its file, and no more.
+fn assert_once<R: Threads + Abort + Sync>(rt: &R, alloc: Global, grid: Grid) -> Result<(), Memory> {
+    let (first, others, begin) = grid;
+    let one = end_on_grid(rt, alloc, first, b"", 3)?;
+    assert!(rt; one.report.written().starts_with(begin));
+    for words in others {
+        assert_same(rt, &one, &end_on_grid(rt, alloc, words, b"", 3)?);
     }
     Ok(())
 }
 
 #[test]
 fn grids_are_placed_once_for_all_seats(rt: HostRuntime) -> Result<(), Fail> {
-    for (grid, seats, begin) in GRIDS {
-        assert_once(&rt, rt.alloc(), grid, seats, begin)?;
+    for grid in GRIDS {
+        assert_once(&rt, rt.alloc(), *grid)?;
     }
     Ok(())
 }

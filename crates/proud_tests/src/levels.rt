@@ -1,18 +1,9 @@
 //! How often the regions are cut, and where the cells come to stand. All expected texts were worked out by hand.
 
-use crate::designs::{
-    Case, MIDDLE, MIDDLE_REPORT, NO_CELL, ONE_CELL, THREE_PADS, TWO_CELLS, Texts, USUAL,
-    assert_case, placed,
+use run_cases::{
+    MIDDLE, MIDDLE_REPORT, NO_CELL, ONE_CELL, Run, THREE_PADS, TWO_CELLS, USUAL, check_runs,
 };
 use std::test::Fail;
-
-/// The words of a run, the design in its folder, the text of its placement, and the report.
-type Run = (
-    &'static [&'static str],
-    Texts<'static>,
-    &'static [u8],
-    &'static [u8],
-);
 
 /// Two cells at the places of the first level, and of the next.
 const NEAR: &[u8] = b"UCLA pl 1.0\na 2 0 : N\nb 6 0 : N\nl 0 5 : N /FIXED\nr 10 5 : N /FIXED\n";
@@ -23,7 +14,7 @@ const APART: &[u8] = b"UCLA pl 1.0\na 2 0 : N\nb 7 0 : N\nl 0 5 : N /FIXED\nr 10
 const ROWS: &[u8] = b"UCLA pl 1.0\nu 6 12 : N\nv 14 24 : N\n\
     m 14 0 : N /FIXED\ni -1 18 : N /FIXED\nq 20 30 : N /FIXED\n";
 
-const RUNS: [Run; 10] = [
+const RUNS: &[Run] = &[
     (
         &["proud", "--levels", "4", "a.aux"],
         ONE_CELL,
@@ -89,9 +80,5 @@ const RUNS: [Run; 10] = [
 
 #[test]
 fn levels_may_be_asked_for(rt: HostRuntime) -> Result<(), Fail> {
-    for (words, texts, file, report) in RUNS {
-        let case = placed(texts, file, report);
-        assert_case(&rt, rt.alloc(), Case { words, ..case })?;
-    }
-    Ok(())
+    Ok(check_runs(&rt, rt.alloc(), RUNS)?)
 }

@@ -5,15 +5,9 @@
 #![tactic(auto)]
 
 #[cfg(test)]
-mod bad_files;
-#[cfg(test)]
-mod designs;
+mod cases;
 #[cfg(test)]
 mod exit;
-#[cfg(test)]
-mod failing;
-#[cfg(test)]
-mod faults;
 #[cfg(test)]
 mod grids;
 #[cfg(test)]
@@ -21,13 +15,9 @@ mod levels;
 #[cfg(test)]
 mod limits;
 #[cfg(test)]
-mod reads;
-#[cfg(test)]
 mod schedules;
 #[cfg(test)]
 mod seats;
-#[cfg(test)]
-mod standing;
 #[cfg(test)]
 mod stars;
 #[cfg(test)]

@@ -1,42 +1,57 @@
 //! How many seats are asked for, and that they run at the same time.
 
-use crate::designs::{
-    Case, NO_CELL, ONE_CELL, TWO_CELLS, Texts, assert_case, files_of, placed, words_of,
-};
-use book_outer::{Calls, Gate, MemFolder, MemSink};
+use book_outer::Gate;
 use book_text::Memory;
-use proud_top::{FileKind, Status, proud};
+use proud_top::Status;
+use run_cases::{NO_CELL, ONE_CELL, Run, TWO_CELLS, Texts, check_runs, end_on};
 use std::alloc::Global;
 use std::process::Abort;
 use std::sync::atomic::{AtomicU64, Ordering};
 use std::test::Fail;
 
-/// Words that ask for a number of seats.
-const GOOD: [&[&str]; 4] = [
-    &["proud", "--seats", "1", "a.aux"],
-    &["proud", "--seats", "7", "a.aux"],
-    &["proud", "--seats", "64", "a.aux"],
-    &["proud", "--seats", "04", "a.aux"],
+/// Two cells, whatever the number of seats is.
+const TWO: &[u8] = b"UCLA pl 1.0\na 2 0 : N\nb 7 0 : N\nl 0 5 : N /FIXED\nr 10 5 : N /FIXED\n";
+
+const TWO_REPORT: &[u8] = b"cells 2 terminals 2 nets 3 pins 6\nlevels 4 gap 2\nwire 10\n";
+
+/// Runs by a number of seats.
+const GOOD: &[Run] = &[
+    (
+        &["proud", "--seats", "1", "a.aux"],
+        TWO_CELLS,
+        TWO,
+        TWO_REPORT,
+    ),
+    (
+        &["proud", "--seats", "7", "a.aux"],
+        TWO_CELLS,
+        TWO,
+        TWO_REPORT,
+    ),
+    (
+        &["proud", "--seats", "64", "a.aux"],
+        TWO_CELLS,
+        TWO,
+        TWO_REPORT,
+    ),
+    (
+        &["proud", "--seats", "04", "a.aux"],
+        TWO_CELLS,
+        TWO,
+        TWO_REPORT,
+    ),
+    // without a point no crew is needed
+    (
+        &["proud", "--seats", "2", "a.aux"],
+        NO_CELL,
+        b"UCLA pl 1.0\np 3 4 : N /FIXED\n",
+        b"cells 0 terminals 1 nets 0 pins 0\nlevels 4 gap 0\nwire 0\n",
+    ),
 ];
 
 #[test]
 fn seats_may_be_asked_for(rt: HostRuntime) -> Result<(), Fail> {
-    let file: &'static [u8] =
-        b"UCLA pl 1.0\na 2 0 : N\nb 7 0 : N\nl 0 5 : N /FIXED\nr 10 5 : N /FIXED\n";
-    let report: &'static [u8] = b"cells 2 terminals 2 nets 3 pins 6\nlevels 4 gap 2\nwire 10\n";
-    let done = placed(TWO_CELLS, file, report);
-    for words in GOOD {
-        assert_case(&rt, rt.alloc(), Case { words, ..done })?;
-    }
-    // Without a point no crew is needed.
-    let words = &["proud", "--seats", "2", "a.aux"];
-    let empty = placed(
-        NO_CELL,
-        b"UCLA pl 1.0\np 3 4 : N /FIXED\n",
-        b"cells 0 terminals 1 nets 0 pins 0\nlevels 4 gap 0\nwire 0\n",
-    );
-    assert_case(&rt, rt.alloc(), Case { words, ..empty })?;
-    Ok(())
+    Ok(check_runs(&rt, rt.alloc(), GOOD)?)
 }
 
 /// How often a seat looks for the other one.
@@ -65,8 +80,9 @@ impl Flags {
         }
     }
 
-    /// It has passed once in each of so many solves, and met the other one each time.
-    fn has_met(&self, solves: u64) -> bool {
+    /// It has passed once in each solve for so many vectors, and met the other one each time.
+    fn has_met(&self, vectors: u64) -> bool {
+        let solves = SHIFTS.saturating_mul(vectors);
         self.passes.load(Ordering::SeqCst) == solves && self.met.load(Ordering::SeqCst) == solves
     }
 }
@@ -92,7 +108,7 @@ impl Gate for Meeting {
 const SHIFTS: u64 = 21;
 
 /// Words that ask for two seats, and how many vectors there are: from below and from above, on each axis, at each level.
-const MEETINGS: [(&[&str], u64); 2] = [
+const MEETINGS: &[(&[&str], u64)] = &[
     (&["proud", "--levels", "0", "--seats", "2", "a.aux"], 4),
     (&["proud", "--levels", "1", "--seats", "2", "a.aux"], 8),
 ];
@@ -100,35 +116,29 @@ const MEETINGS: [(&[&str], u64); 2] = [
 /// Each of the two seats that are asked for sees the other one inside its first sweep, in each of the solves.
 #[test]
 fn proud_meets(rt: HostRuntime) -> Result<(), Fail> {
-    let alloc = rt.alloc();
     for (words, vectors) in MEETINGS {
-        let mut folder = MemFolder::new(files_of(alloc, TWO_CELLS)?, Calls::new(alloc));
-        let mut report = MemSink::new(alloc, Calls::new(alloc));
-        let words = words_of(alloc, words)?;
         let gate = Meeting {
             first: Flags::new(),
             second: Flags::new(),
         };
-        let status = proud(&rt, alloc, &words, &mut folder, &mut report, &gate);
-        assert_eq!(rt; status, Status::Done);
-        assert!(rt; gate.first.has_met(vectors * SHIFTS));
-        assert!(rt; gate.second.has_met(vectors * SHIFTS));
+        let end = end_on(&rt, rt.alloc(), words, TWO_CELLS, &gate)?;
+        assert_eq!(rt; end.status, Status::Done);
+        assert!(rt; gate.first.has_met(*vectors));
+        assert!(rt; gate.second.has_met(*vectors));
     }
     Ok(())
 }
 
 /// Four cells in a chain between two terminals.
-fn four_cells() -> Texts<'static> {
-    Texts {
-        nodes: b"UCLA nodes 1.0\nNumNodes : 6\nNumTerminals : 2\n\
-            a 2 10\nb 2 10\nc 2 10\nd 2 10\nl 0 0 terminal\nr 0 0 terminal\n",
-        nets: b"UCLA nets 1.0\nNumNets : 5\nNumPins : 10\n\
-            NetDegree : 2\nl B\na B\nNetDegree : 2\na B\nb B\nNetDegree : 2\nb B\nc B\n\
-            NetDegree : 2\nc B\nd B\nNetDegree : 2\nd B\nr B\n",
-        pl: b"UCLA pl 1.0\nl 0 5 : N /FIXED\nr 10 5 : N /FIXED\n",
-        ..ONE_CELL
-    }
-}
+const FOUR_CELLS: Texts = Texts {
+    nodes: b"UCLA nodes 1.0\nNumNodes : 6\nNumTerminals : 2\n\
+        a 2 10\nb 2 10\nc 2 10\nd 2 10\nl 0 0 terminal\nr 0 0 terminal\n",
+    nets: b"UCLA nets 1.0\nNumNets : 5\nNumPins : 10\n\
+        NetDegree : 2\nl B\na B\nNetDegree : 2\na B\nb B\nNetDegree : 2\nb B\nc B\n\
+        NetDegree : 2\nc B\nd B\nNetDegree : 2\nd B\nr B\n",
+    pl: b"UCLA pl 1.0\nl 0 5 : N /FIXED\nr 10 5 : N /FIXED\n",
+    ..ONE_CELL
+};
 
 /// Adds 100 and the seat's number to a word of the point at each pass.
 #[derive(Drop)]
@@ -166,7 +176,7 @@ impl Gate for Watch {
 /// Words that ask for levels and seats, which seat owns each of the four cells, and how many vectors there are.
 type Deal = (&'static [&'static str], &'static [u8], u64);
 
-const DEALS: [Deal; 7] = [
+const DEALS: &[Deal] = &[
     (&["proud", "--levels", "0", "a.aux"], &[0, 1, 2, 3], 4),
     (
         &["proud", "--levels", "0", "--seats", "1", "a.aux"],
@@ -201,13 +211,10 @@ const DEALS: [Deal; 7] = [
 fn as_many_seats_work_as_are_asked_for(rt: HostRuntime) -> Result<(), Fail> {
     let alloc = rt.alloc();
     for (words, owners, vectors) in DEALS {
-        let mut folder = MemFolder::new(files_of(alloc, four_cells())?, Calls::new(alloc));
-        let mut report = MemSink::new(alloc, Calls::new(alloc));
         let gate = Watch::over(alloc, 4)?;
-        let words = words_of(alloc, words)?;
-        let status = proud(&rt, alloc, &words, &mut folder, &mut report, &gate);
-        assert_eq!(rt; status, Status::Done);
-        gate.shows(&rt, owners, vectors);
+        let end = end_on(&rt, alloc, words, FOUR_CELLS, &gate)?;
+        assert_eq!(rt; end.status, Status::Done);
+        gate.shows(&rt, owners, *vectors);
     }
     Ok(())
 }

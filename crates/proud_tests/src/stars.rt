@@ -1,9 +1,7 @@
 //! Nets of up to 16 nodes, and wider ones, which have star points.
 
-use crate::designs::{Case, ONE_CELL, Texts, assert_case, case_of, placed};
-use crate::faults::{lines_of, with_lines};
 use book_text::Memory;
-use proud_top::{NetFault, Refusal, Status};
+use run_cases::{ONE_CELL, Texts, lines_of, placed, with_lines};
 use std::alloc::Global;
 use std::test::Fail;
 
@@ -89,58 +87,9 @@ fn wide_nets_are_placed(rt: HostRuntime) -> Result<(), Fail> {
             ..ONE_CELL
         };
         let file = places(alloc, *ring, ring.placed)?;
-        let case = Case {
-            words: &["proud", "--levels", "0", "a.aux"],
-            ..placed(texts, file.as_slice(), ring.report)
-        };
-        assert_case(&rt, alloc, case)?;
+        let case = placed(texts, file.as_slice(), ring.report);
+        case.by(&["proud", "--levels", "0", "a.aux"])
+            .check(&rt, alloc)?;
     }
-    Ok(())
-}
-
-/// A wide net of the greatest weight behind a net of one pair: it is the second net, and its star point the third point.
-#[test]
-fn a_net_that_is_too_heavy_is_named(rt: HostRuntime) -> Result<(), Fail> {
-    let alloc = rt.alloc();
-    let nodes = "UCLA nodes 1.0\nNumNodes : 20000\na 2 10\nb 2 10\n";
-    let nets = "UCLA nets 1.0\nNumNets : 2\nNumPins : 20002\n\
-        NetDegree : 2\na B\nb B\nNetDegree : 20000 n\na B\nb B\n";
-    let node_text = lines_of(alloc, nodes, "p", " 0 0 terminal", 19_998)?;
-    let net_text = lines_of(alloc, nets, "p", " B", 19_998)?;
-    let place_text = lines_of(alloc, "UCLA pl 1.0\n", "p", " 0 5 : N /FIXED", 19_998)?;
-    let texts = Texts {
-        aux: b"RowBasedPlacement : a.nodes a.nets a.wts a.pl a.scl\n",
-        nodes: node_text.as_slice(),
-        nets: net_text.as_slice(),
-        wts: b"UCLA wts 1.0\nn 65535\n",
-        pl: place_text.as_slice(),
-        ..ONE_CELL
-    };
-    let refused = Status::Refused(Refusal::Net(NetFault::Heavy(2)));
-    let case = case_of(texts, refused, b"proud: net 1: too heavy\n");
-    assert_case(&rt, alloc, case)?;
-    assert_eq!(rt; refused.code(), 2);
-    Ok(())
-}
-
-/// 512 cells stand in each of 129 nets, and no pad.
-#[test]
-fn a_cell_of_wide_nets_alone_is_named(rt: HostRuntime) -> Result<(), Fail> {
-    let alloc = rt.alloc();
-    let node_text = lines_of(alloc, "UCLA nodes 1.0\nNumNodes : 512\n", "c", " 2 10", 512)?;
-    let net = lines_of(alloc, "NetDegree : 512\n", "c", " B", 512)?;
-    let mut net_text = Vec::from_slice(alloc, b"UCLA nets 1.0\nNumNets : 129\nNumPins : 66048\n")?;
-    for _ in 0..129 {
-        net_text.extend_from_slice(&net)?;
-    }
-    let texts = Texts {
-        nodes: node_text.as_slice(),
-        nets: net_text.as_slice(),
-        pl: b"UCLA pl 1.0\n",
-        ..ONE_CELL
-    };
-    let refused = Status::Refused(Refusal::Unanchored(0));
-    let line = b"proud: node c0: reaches no pad\n";
-    assert_case(&rt, alloc, case_of(texts, refused, line))?;
     Ok(())
 }

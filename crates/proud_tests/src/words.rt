@@ -1,15 +1,16 @@
 //! Which words ask for nothing, and into which file the placement is put.
 
-use crate::designs::{
-    Case, MIDDLE, MIDDLE_REPORT, ONE_CELL, TWO_CELLS, USAGE, assert_case, case_of, files_of,
-    words_of,
-};
-use book_outer::{Calls, MemFolder, MemSink, OpenGate};
-use proud_top::{Status, proud};
+use book_outer::OpenGate;
+use proud_top::Status;
+use run_cases::{MIDDLE, MIDDLE_REPORT, ONE_CELL, OUTPUT, TWO_CELLS, end_on, stopped};
 use std::test::Fail;
 
+/// The line for words of another form.
+pub(crate) const USAGE: &[u8] =
+    b"usage: proud [--levels N] [--seats N] [--out FILE] [--schedule FILE] (DESIGN | --grid R,C,K)\n";
+
 /// Words that ask for nothing.
-const USAGES: [&[&str]; 22] = [
+const USAGES: &[&[&str]] = &[
     &["proud"],
     &[],
     &["proud", "a.aux", "a.aux"],
@@ -37,18 +38,15 @@ const USAGES: [&[&str]; 22] = [
 /// The first call of the folder fails, so a run that reads anything ends with a read fault.
 #[test]
 fn words_that_ask_for_nothing_are_told(rt: HostRuntime) -> Result<(), Fail> {
-    let usage = Case {
-        call: 1,
-        ..case_of(TWO_CELLS, Status::Usage, USAGE)
-    };
+    let usage = stopped(TWO_CELLS, Status::Usage, USAGE).failing(1);
     for words in USAGES {
-        assert_case(&rt, rt.alloc(), Case { words, ..usage })?;
+        usage.by(words).check(&rt, rt.alloc())?;
     }
     Ok(())
 }
 
 /// Words that ask for the one cell, and the output file: one of its own, or one of those that are read.
-const FILES: [(&[&str], &str); 7] = [
+const FILES: &[(&[&str], &str)] = &[
     (&["proud", "a.aux"], "a.proud.pl"),
     (&["proud", "--seats=2", "--", "a.aux"], "a.proud.pl"),
     (
@@ -63,16 +61,12 @@ const FILES: [(&[&str], &str); 7] = [
 
 #[test]
 fn the_output_file_may_be_asked_for(rt: HostRuntime) -> Result<(), Fail> {
-    let alloc = rt.alloc();
     for (words, name) in FILES {
-        let mut folder = MemFolder::new(files_of(alloc, ONE_CELL)?, Calls::new(alloc));
-        let mut report = MemSink::new(alloc, Calls::new(alloc));
-        let words = words_of(alloc, words)?;
-        let status = proud(&rt, alloc, &words, &mut folder, &mut report, &OpenGate);
-        assert_eq!(rt; status, Status::Done);
-        assert!(rt; report.written() == MIDDLE_REPORT);
-        assert!(rt; folder.file(name) == Some(MIDDLE));
-        assert!(rt; name == "a.proud.pl" || folder.file("a.proud.pl").is_none());
+        let end = end_on(&rt, rt.alloc(), words, ONE_CELL, &OpenGate)?;
+        assert_eq!(rt; end.status, Status::Done);
+        assert!(rt; end.report.written() == MIDDLE_REPORT);
+        assert!(rt; end.folder.file(name) == Some(MIDDLE));
+        assert!(rt; *name == OUTPUT || end.folder.file(OUTPUT).is_none());
     }
     Ok(())
 }

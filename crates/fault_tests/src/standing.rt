@@ -1,9 +1,9 @@
 //! What stands behind a run on a design that can be placed, by its status.
 
-use crate::designs::{A, OUTPUT, Texts, assert_kept, files_of, words_of};
-use book_outer::{CalmFolder, CalmSink, MemFolder, MemSink, OpenGate};
+use book_outer::{CalmFolder, CalmSink, MemSink, OpenGate};
 use book_text::Memory;
 use proud_top::{FileKind, Status, proud};
+use run_cases::{A, End, OUTPUT, Texts, are_kept, files_of, words_of};
 use std::alloc::Global;
 use std::process::Abort;
 use std::thread::Threads;
@@ -34,38 +34,13 @@ pub(crate) fn due_of<R: Threads + Abort + Sync>(
     })
 }
 
-/// How a run ended, and what it leaves.
-#[derive(Drop)]
-pub(crate) struct End {
-    pub(crate) status: Status,
-    pub(crate) folder: MemFolder,
-    pub(crate) report: MemSink,
-}
-
-/// A run by these words.
-pub(crate) fn end_of<R: Threads + Abort + Sync>(
-    rt: &R,
-    alloc: Global,
-    words: &[&str],
-    mut folder: MemFolder,
-    mut report: MemSink,
-) -> Result<End, Memory> {
-    let words = words_of(alloc, words)?;
-    let status = proud(rt, alloc, &words, &mut folder, &mut report, &OpenGate);
-    Ok(End {
-        status,
-        folder,
-        report,
-    })
-}
-
 /// Asserts what the table of the statuses says that stands after a run on a design that can be placed. The files of the design are
 /// as they were under each status.
 pub(crate) fn assert_stands<R: Abort>(rt: &R, texts: Texts<'_>, due: &Due, end: &End) {
     let file = end.folder.file(OUTPUT);
     let got = end.report.written();
     let status = end.status;
-    assert_kept(rt, &end.folder, texts);
+    assert!(rt; are_kept(&end.folder, texts));
     match status {
         Status::Done => assert!(rt;
             file == Some(due.placement.as_slice()) && got == due.report.as_slice()

@@ -2,11 +2,11 @@
 
 ghost use Rattle.std.specs.Prelude.{◌≤◌};
 
-use crate::designs::{ONE_CELL, TWO_ROWS, Texts, USUAL, calls_of, files_of};
-use crate::standing::{assert_stands, due_of, end_of};
-use book_outer::{Calls, MemFolder, MemSink};
+use crate::standing::{assert_stands, due_of};
+use book_outer::{MemFolder, OpenGate};
 use book_text::Memory;
 use proud_top::{FileKind, Status};
+use run_cases::{ONE_CELL, TWO_ROWS, Texts, USUAL, calls_of, end_of, files_of, folder_of, sink_of};
 use std::alloc::Global;
 use std::process::Abort;
 use std::test::Fail;
@@ -15,7 +15,7 @@ use std::thread::Threads;
 /// A design, and its files in the order in which they are read.
 type Design = (Texts<'static>, &'static [FileKind]);
 
-const DESIGNS: [Design; 3] = [
+const DESIGNS: &[Design] = &[
     (
         ONE_CELL,
         &[
@@ -26,11 +26,11 @@ const DESIGNS: [Design; 3] = [
             FileKind::Scl,
         ],
     ),
-    (USUAL, &ALL_SIX),
-    (TWO_ROWS, &ALL_SIX),
+    (USUAL, ALL_SIX),
+    (TWO_ROWS, ALL_SIX),
 ];
 
-const ALL_SIX: [FileKind; 6] = [
+const ALL_SIX: &[FileKind] = &[
     FileKind::Aux,
     FileKind::Nodes,
     FileKind::Nets,
@@ -40,23 +40,9 @@ const ALL_SIX: [FileKind; 6] = [
 ];
 
 /// Words that ask for one seat, and for four.
-const SEATS: [&[&str]; 2] = [
-    &["proud", "--seats", "1", "a.aux"],
-    &["proud", "--seats", "4", "a.aux"],
-];
+const SEATS: &[&[&str]] = &[&["proud", "--seats", "1", "a.aux"], FOUR_SEATS];
 
-/// How long the file of a kind is.
-fn length_of(texts: Texts<'_>, kind: FileKind) -> usize {
-    match kind {
-        FileKind::Aux => texts.aux.len(),
-        FileKind::Nodes => texts.nodes.len(),
-        FileKind::Nets => texts.nets.len(),
-        FileKind::Wts => texts.wts.len(),
-        FileKind::Pl => texts.pl.len(),
-        FileKind::Scl => texts.scl.len(),
-        FileKind::Schedule => 0,
-    }
-}
+const FOUR_SEATS: &[&str] = &["proud", "--seats", "4", "a.aux"];
 
 /// How many calls a file of so many bytes takes: it is begun, read in pieces of at most so many bytes, and found to have ended.
 fn calls_for(length: usize, most: usize) -> u64
@@ -74,7 +60,7 @@ fn due_after(design: Design, most: usize, calls: u64) -> Status
     let (texts, kinds) = design;
     let mut left = calls;
     for kind in kinds {
-        let own = calls_for(length_of(texts, *kind), most);
+        let own = calls_for(texts.text(*kind).len(), most);
         if left < own {
             return Status::ReadFault(*kind);
         }
@@ -105,8 +91,7 @@ fn assert_folder_fails_once<R: Threads + Abort + Sync>(
     for before in 0..MOST_RUNS {
         let failing = calls_of(alloc, before + 1)?;
         let folder = MemFolder::slow(files_of(alloc, design.0)?, failing, most);
-        let report = MemSink::new(alloc, Calls::new(alloc));
-        let end = end_of(rt, alloc, words, folder, report)?;
+        let end = end_of(rt, alloc, words, folder, sink_of(alloc, 0)?, &OpenGate)?;
         assert_eq!(rt; end.status, due_after(design, most, before));
         assert_stands(rt, design.0, &due, &end);
         if end.status == Status::Done {
@@ -124,7 +109,7 @@ fn assert_folder_fails_once<R: Threads + Abort + Sync>(
 fn each_call_of_the_folder_fails_once(rt: HostRuntime) -> Result<(), Fail> {
     for design in DESIGNS {
         for words in SEATS {
-            assert_folder_fails_once(&rt, rt.alloc(), design, words, usize::MAX)?;
+            assert_folder_fails_once(&rt, rt.alloc(), *design, words, usize::MAX)?;
         }
     }
     Ok(())
@@ -133,7 +118,7 @@ fn each_call_of_the_folder_fails_once(rt: HostRuntime) -> Result<(), Fail> {
 #[test]
 fn each_read_of_a_piece_fails_once(rt: HostRuntime) -> Result<(), Fail> {
     for design in DESIGNS {
-        assert_folder_fails_once(&rt, rt.alloc(), design, SEATS[1], 7)?;
+        assert_folder_fails_once(&rt, rt.alloc(), *design, FOUR_SEATS, 7)?;
     }
     Ok(())
 }
@@ -147,9 +132,9 @@ fn assert_report_fails_once<R: Threads + Abort + Sync>(
 ) -> Result<(), Memory> {
     let due = due_of(rt, alloc, texts)?;
     for before in 0..MOST_RUNS {
-        let folder = MemFolder::new(files_of(alloc, texts)?, Calls::new(alloc));
-        let report = MemSink::new(alloc, calls_of(alloc, before + 1)?);
-        let end = end_of(rt, alloc, words, folder, report)?;
+        let folder = folder_of(alloc, texts, 0)?;
+        let report = sink_of(alloc, before + 1)?;
+        let end = end_of(rt, alloc, words, folder, report, &OpenGate)?;
         assert_stands(rt, texts, &due, &end);
         if end.status == Status::Done {
             assert_eq!(rt; end.report.calls(), before);
@@ -167,7 +152,7 @@ fn assert_report_fails_once<R: Threads + Abort + Sync>(
 fn each_put_of_the_report_fails_once(rt: HostRuntime) -> Result<(), Fail> {
     for (texts, _) in DESIGNS {
         for words in SEATS {
-            assert_report_fails_once(&rt, rt.alloc(), texts, words)?;
+            assert_report_fails_once(&rt, rt.alloc(), *texts, words)?;
         }
     }
     Ok(())
