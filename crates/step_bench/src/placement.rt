@@ -4,7 +4,7 @@ ghost use Rattle.std.specs.Prelude.{◌≡◌, length, All, IfOk};
 ghost use Rattle.std.specs.List.{AllByRecursion};
 ghost use Rattle.book_text.specs.Coordinates.{IsMicro};
 ghost use Rattle.book_files.specs.Entries.{place_entry, place_entries};
-ghost use Rattle.book_files.specs.Ranges.{IsName};
+ghost use Rattle.book_files.specs.Ranges.{IsName, IsMarkedWell};
 ghost use Rattle.book_design.specs.Values.{node_value};
 ghost use Rattle.wire_report.specs.Wire.{IsNearCorner};
 
@@ -93,7 +93,8 @@ fn lines<'a>(
     corners: &[Corner],
 ) -> Result<Vec<PlaceLine<'a>>, Memory>
     requires { length corners.now ≡ length design.now.nodes }
-    ensures { IfOk result (λ lines. AllByRecursion (λ place. IsName place.name) (place_entries lines.items)) }
+    ensures names { IfOk result (λ lines. AllByRecursion (λ place. IsName place.name) (place_entries lines.items)) }
+    ensures marks { IfOk result (λ lines. AllByRecursion (λ place. IsMarkedWell place.fixed place.overlap) (place_entries lines.items)) }
 {
     let nodes = design.nodes();
     let mut lines = Vec::with_capacity(alloc, nodes.len())?;
@@ -104,8 +105,10 @@ fn lines<'a>(
 }
 
 fn line_of<'a>(node: &Node<'a>, corner: Corner) -> PlaceLine<'a>
-    requires { IsName (node_value node.now).name }
-    ensures { IsName (place_entry result).name }
+    requires name { IsName (node_value node.now).name }
+    requires marks { IsMarkedWell (node_value node.now).fixed (node_value node.now).overlap }
+    ensures name { IsName (place_entry result).name }
+    ensures marks { IsMarkedWell (place_entry result).fixed (place_entry result).overlap }
 {
     PlaceLine {
         line: 0,
