@@ -15,6 +15,8 @@ mod levels;
 #[cfg(test)]
 mod limits;
 #[cfg(test)]
+mod overlap;
+#[cfg(test)]
 mod schedules;
 #[cfg(test)]
 mod seats;
