@@ -104,7 +104,7 @@ fn check_mark<R: Threads + Sync>(rt: &R, alloc: Global, mark: Mark) -> Result<()
         pl: pl.as_slice(),
         ..MACRO
     };
-    placed(texts, file, REPORT).check(rt, alloc)
+    placed(MACRO, file, REPORT).on(texts).check(rt, alloc)
 }
 
 #[test]
