@@ -1,5 +1,5 @@
--- The levels of a placement.
-use Rattle.std.specs.Prelude.{◌≡◌, ◌⊎◌, ℕ, zero, suc, ◌+◌, ◌-◌, ◌/◌, ◌<◌, ◌≤◌, List, [], ◌∷◌, ◌++◌, length, map, replicate, slice_index, slice_index_or, All, Contains, ℤ}
+-- The rounds of a placement: the regions of its levels, solved several times each.
+use Rattle.std.specs.Prelude.{◌≡◌, ◌⊎◌, ℕ, zero, suc, ◌+◌, ◌-◌, ◌/◌, ◌<◌, ◌≤◌, ◌==◌, if◌then◌else◌, List, [], ◌∷◌, ◌++◌, length, map, replicate, slice_index, slice_index_or, All, Contains, ℤ}
 use Rattle.std.specs.List.{range_with_len, flat_map}
 use Rattle.relax_system.specs.declared.points.Point.{Point}
 use Rattle.relax_system.specs.Means.{AtMost, IsFloorFixed, IsCeilFixed}
@@ -14,7 +14,9 @@ use Rattle.net_model.specs.Webs.{joints_of}
 use Rattle.net_model.specs.Values.{NetworkValue}
 use Rattle.level_run.specs.declared.level.Solve.{Solve}
 use Rattle.level_run.specs.declared.level.Level.{Level}
+use Rattle.level_run.specs.declared.rounds.Rounds.{Rounds}
 use Rattle.level_run.specs.LevelSystem.{coordinate, level_system}
+use Rattle.level_run.specs.Rounds.{rounds_in, level_of}
 
 -- half of the sum of the two entries of each point, rounded down
 abbrev pub halfway : List ℕ → List ℕ → List ℕ
@@ -26,7 +28,7 @@ pub record IsSolve (points : List Point) (solve : Solve) : Type 0 where
   pub hi : IsGreatest points solve.hi
   pub mid : solve.mid ≡ halfway solve.lo solve.hi
 
--- a level over these regions, solved with these mids
+-- a round over these regions, solved with these mids
 pub record IsLevel (network : NetworkValue) (over : List Region) (xs ys : List ℕ) (level : Level) : Type 0 where
   pub regions : level.regions ≡ over
   pub x : IsSolve (level_system X network over xs) level.x
@@ -54,19 +56,27 @@ no_mids network = replicate (length network.points) 0
 abbrev pub next_regions : NetworkValue → Level → List Region
 next_regions network level = cut_of (areas_of network) level.x.mid level.y.mid level.regions
 
--- the first level: all points share the core, so no mids are used
+-- the regions of the round after this one, which is round r: the same where it belongs to the same level
+abbrev pub regions_after : NetworkValue → ℕ → ℕ → Level → List Region
+regions_after network passes r round = if level_of passes (r + 1) == level_of passes r then round.regions else next_regions network round
+
+-- the first round: all points share the core, so no mids are used
 abbrev pub IsFirst : NetworkValue → Level → Type 0
-IsFirst network level = IsLevel network (core_region network ∷ []) (no_mids network) (no_mids network) level
+IsFirst network round = IsLevel network (core_region network ∷ []) (no_mids network) (no_mids network) round
 
--- the level after this one: its regions are cut, and solved with its mids
-abbrev pub IsNext : NetworkValue → Level → Level → Type 0
-IsNext network level next = IsLevel network (next_regions network level) level.x.mid level.y.mid next
+-- the round after round r: it is solved with the mids of that one
+abbrev pub IsNext : NetworkValue → ℕ → ℕ → Level → Level → Type 0
+IsNext network passes r round next = IsLevel network (regions_after network passes r round) round.x.mid round.y.mid next
 
--- so many levels after the first
-pub record IsLevels (network : NetworkValue) (count : ℕ) (levels : List Level) : Type 0 where
-  pub many : length levels ≡ count + 1
+-- so many rounds, where each level is solved so often
+pub record AreRounds (network : NetworkValue) (passes count : ℕ) (levels : List Level) : Type 0 where
+  pub many : length levels ≡ count
   pub first : (d : Level) → IsFirst network (slice_index_or levels 0 d)
-  pub next : (k : ℕ) (d : Level) → k < count → IsNext network (slice_index_or levels k d) (slice_index_or levels (k + 1) d)
+  pub next : (r : ℕ) (d : Level) → r + 1 < count → IsNext network passes r (slice_index_or levels r d) (slice_index_or levels (r + 1) d)
+
+-- the rounds of all levels
+abbrev pub IsLevels : NetworkValue → Rounds → List Level → Type 0
+IsLevels network rounds levels = AreRounds network rounds.passes (rounds_in rounds) levels
 
 -- each point reaches a pad
 abbrev pub HasChains : NetworkValue → Type 0
@@ -76,19 +86,19 @@ abbrev pub solve_on : Axis → Level → Solve
 solve_on X level = level.x
 solve_on Y level = level.y
 
--- past the end there is a level without regions
+-- past the end there is a round without regions
 abbrev pub no_level : Level
 no_level = record { regions = []; x = record { lo = []; hi = []; mid = [] }; y = record { lo = []; hi = []; mid = [] } }
 
 abbrev pub level_at : List Level → ℕ → Level
 level_at levels k = slice_index_or levels k no_level
 
--- the mids that a level is solved with: those of the level before
+-- the mids that a round is solved with: those of the round before
 abbrev pub mids_before : Axis → NetworkValue → List Level → ℕ → List ℕ
 mids_before axis network levels zero = no_mids network
 mids_before axis network levels (suc k) = (solve_on axis (level_at levels k)).mid
 
--- the system that a level was solved by on an axis
+-- the system that a round was solved by on an axis
 abbrev pub system_of : Axis → NetworkValue → List Level → ℕ → List Point
 system_of axis network levels k = level_system axis network (level_at levels k).regions (mids_before axis network levels k)
 

@@ -1,3 +1,5 @@
+pub mod Asked
+pub mod Rounds
 pub mod LevelSystem
 pub mod Levels
 pub mod Forms

@@ -4,10 +4,12 @@ ghost use Rattle.std.specs.Prelude.{◌≡◌, ℕ, ◌+◌, ◌/◌, ◌^◌, �
 ghost use Rattle.relax_system.specs.Extremal.{IsLeast, IsGreatest};
 ghost use Rattle.relax_crew.specs.Crew.{IsCrewSize};
 ghost use Rattle.level_run.specs.Levels.{IsSolve, IsFirst, IsNext, IsLevels, HasChains, areas_of, halfway};
+ghost use Rattle.level_run.specs.Rounds.{IsInLimits};
 ghost use Rattle.level_run.specs.Forms.Solved.{IsSane, Solves};
 
-use crate::hierarchy::{MOST_LEVELS, areas, first_systems, next_systems};
+use crate::hierarchy::{areas, first_systems, next_systems};
 use crate::level::{Level, Levels, Solve};
+use crate::rounds::{MOST_ROUNDS, Rounds};
 use area_cut::{Regions, parts_share};
 use book_files::Event;
 use book_outer::Gate;
@@ -19,7 +21,7 @@ use relax_world::play;
 use std::alloc::Global;
 use std::thread::Threads;
 
-/// A level that isn't solved yet: its regions, and their systems on both axes.
+/// A round that isn't solved yet: its regions, and their systems on both axes.
 #[derive(Drop)]
 pub(crate) struct Unsolved {
     pub(crate) regions: Regions,
@@ -45,56 +47,63 @@ impl<'a, R: Threads + Sync, G: Gate> Crew<'a, R, G> {
         Crew { rt, gate, seats }
     }
 
-    /// The first level and so many after it.
+    /// The rounds of all levels.
     pub(crate) fn levels(
         &self,
         alloc: Global,
         network: &Network,
-        count: u32,
+        rounds: Rounds,
     ) -> Result<Levels, Memory>
         requires chains { HasChains network.now }
-        requires few { count ≤ MOST_LEVELS }
-        ensures { IfOk result (IsLevels network.now count) }
+        requires limits { IsInLimits rounds }
+        ensures { IfOk result (IsLevels network.now rounds) }
     {
         parts_share();
         let _points = network.points();
         let areas = areas(alloc, network)?;
         let mut levels = Levels::new(alloc);
-        levels.push(self.first_level(alloc, network)?)?;
-        for n in 0..count {
-            let last = &levels.as_slice()[n as usize];
-            let next = self.next_level(alloc, network, &areas, last)?;
+        levels.push(self.first_round(alloc, network)?)?;
+        for r in 0..rounds.count() - 1 {
+            let last = &levels.as_slice()[r as usize];
+            let next = self.next_round(alloc, network, &areas, rounds.passes, r, last)?;
             levels.push(next)?;
         }
         Ok(levels)
     }
 
-    /// The first level: all points share the core.
-    fn first_level(&self, alloc: Global, network: &Network) -> Result<Level, Memory>
+    /// The first round: all points share the core.
+    fn first_round(&self, alloc: Global, network: &Network) -> Result<Level, Memory>
         requires { HasChains network.now }
         ensures { IfOk result (IsFirst network.now) }
     {
-        self.level(alloc, first_systems(alloc, network)?)
+        self.round(alloc, first_systems(alloc, network)?)
     }
 
-    /// The level after this one.
-    fn next_level(
+    /// The round after this one, which is round r.
+    fn next_round(
         &self,
         alloc: Global,
         network: &Network,
         areas: &[u64],
-        level: &Level,
+        passes: u32,
+        r: u32,
+        round: &Level,
     ) -> Result<Level, Memory>
         requires chains { HasChains network.now }
         requires areas { areas.now ≡ areas_of network.now }
-        requires sane { IsSane network.now level.now }
-        ensures { IfOk result (IsNext network.now level.now) }
+        requires some { 1 ≤ passes }
+        requires few { r < MOST_ROUNDS }
+        requires sane { IsSane network.now round.now }
+        ensures { IfOk result (IsNext network.now passes r round.now) }
     {
-        self.level(alloc, next_systems(alloc, network, areas, level)?)
+        self.round(
+            alloc,
+            next_systems(alloc, network, areas, passes, r, round)?,
+        )
     }
 
-    /// The level of these systems.
-    fn level(&self, alloc: Global, unsolved: Unsolved) -> Result<Level, Memory>
+    /// The round of these systems.
+    fn round(&self, alloc: Global, unsolved: Unsolved) -> Result<Level, Memory>
         ensures { IfOk result (Solves unsolved) }
     {
         let x = self.solve(alloc, &unsolved.x)?;
@@ -136,56 +145,63 @@ impl<'a> Player<'a> {
         Player { events, seats }
     }
 
-    /// The first level and so many after it.
+    /// The rounds of all levels.
     pub(crate) fn levels(
         &self,
         alloc: Global,
         network: &Network,
-        count: u32,
+        rounds: Rounds,
     ) -> Result<Levels, Memory>
         requires chains { HasChains network.now }
-        requires few { count ≤ MOST_LEVELS }
-        ensures { IfOk result (IsLevels network.now count) }
+        requires limits { IsInLimits rounds }
+        ensures { IfOk result (IsLevels network.now rounds) }
     {
         parts_share();
         let _points = network.points();
         let areas = areas(alloc, network)?;
         let mut levels = Levels::new(alloc);
-        levels.push(self.first_level(alloc, network)?)?;
-        for n in 0..count {
-            let last = &levels.as_slice()[n as usize];
-            let next = self.next_level(alloc, network, &areas, last)?;
+        levels.push(self.first_round(alloc, network)?)?;
+        for r in 0..rounds.count() - 1 {
+            let last = &levels.as_slice()[r as usize];
+            let next = self.next_round(alloc, network, &areas, rounds.passes, r, last)?;
             levels.push(next)?;
         }
         Ok(levels)
     }
 
-    /// The first level: all points share the core.
-    fn first_level(&self, alloc: Global, network: &Network) -> Result<Level, Memory>
+    /// The first round: all points share the core.
+    fn first_round(&self, alloc: Global, network: &Network) -> Result<Level, Memory>
         requires { HasChains network.now }
         ensures { IfOk result (IsFirst network.now) }
     {
-        self.level(alloc, first_systems(alloc, network)?)
+        self.round(alloc, first_systems(alloc, network)?)
     }
 
-    /// The level after this one.
-    fn next_level(
+    /// The round after this one, which is round r.
+    fn next_round(
         &self,
         alloc: Global,
         network: &Network,
         areas: &[u64],
-        level: &Level,
+        passes: u32,
+        r: u32,
+        round: &Level,
     ) -> Result<Level, Memory>
         requires chains { HasChains network.now }
         requires areas { areas.now ≡ areas_of network.now }
-        requires sane { IsSane network.now level.now }
-        ensures { IfOk result (IsNext network.now level.now) }
+        requires some { 1 ≤ passes }
+        requires few { r < MOST_ROUNDS }
+        requires sane { IsSane network.now round.now }
+        ensures { IfOk result (IsNext network.now passes r round.now) }
     {
-        self.level(alloc, next_systems(alloc, network, areas, level)?)
+        self.round(
+            alloc,
+            next_systems(alloc, network, areas, passes, r, round)?,
+        )
     }
 
-    /// The level of these systems.
-    fn level(&self, alloc: Global, unsolved: Unsolved) -> Result<Level, Memory>
+    /// The round of these systems.
+    fn round(&self, alloc: Global, unsolved: Unsolved) -> Result<Level, Memory>
         ensures { IfOk result (Solves unsolved) }
     {
         let x = self.solve(alloc, &unsolved.x)?;

@@ -5,7 +5,9 @@ use crate::designs::{Texts, made};
 use area_cut::whole;
 use book_files::Event;
 use book_outer::OpenGate;
-use level_run::{Axis, Levels, MOST_LEVELS, Options, Solve, gap, levels, levels_by, project};
+use level_run::{
+    Axis, Levels, MOST_LEVELS, MOST_PASSES, MOST_ROUNDS, Options, Solve, gap, levels_by, project,
+};
 use pad_reach::reach;
 use relax_crew::MOST_SEATS;
 use relax_system::Near;
@@ -85,14 +87,21 @@ const MESH: Texts = Texts {
 /// The least and the greatest vector of a solve, and the mids.
 type Vectors = (&'static [u64], &'static [u64], &'static [u64]);
 
-/// A design, how often it is cut, and its last level: the regions, and what is solved there on x and on y; and the gap of all
-/// levels.
-type Case = (Texts<'static>, u32, &'static [Row], Vectors, Vectors, u64);
+/// A design, how often it is cut and each level is solved, and its last round: the regions, and what is solved there on x and on y;
+/// and the gap of all rounds.
+type Case = (
+    Texts<'static>,
+    (u32, u32),
+    &'static [Row],
+    Vectors,
+    Vectors,
+    u64,
+);
 
 const CASES: &[Case] = &[
     (
         ONE,
-        4,
+        (4, 1),
         &[(
             1_000_000_000_000,
             1_000_010_000_000,
@@ -114,7 +123,7 @@ const CASES: &[Case] = &[
     ),
     (
         UNEVEN,
-        4,
+        (4, 1),
         &[(
             1_000_000_000_000,
             1_000_010_000_000,
@@ -136,7 +145,7 @@ const CASES: &[Case] = &[
     ),
     (
         CHAIN,
-        0,
+        (0, 1),
         &[(
             1_000_000_000_000,
             1_000_010_000_000,
@@ -159,7 +168,7 @@ const CASES: &[Case] = &[
     // each cell has a half of the core, and stands between its pad and the line
     (
         CHAIN,
-        1,
+        (1, 1),
         &[
             (
                 1_000_000_000_000,
@@ -191,7 +200,7 @@ const CASES: &[Case] = &[
     // found by a script that shares no code
     (
         MESH,
-        3,
+        (3, 1),
         &[
             (
                 1_000_000_000_000,
@@ -290,6 +299,93 @@ const CASES: &[Case] = &[
         ),
         8,
     ),
+    (
+        MESH,
+        (2, 3),
+        &[
+            (
+                1_000_000_000_000,
+                1_000_006_000_000,
+                1_000_000_000_000,
+                1_000_010_000_000,
+                &[0, 1],
+            ),
+            (
+                1_000_006_000_000,
+                1_000_012_000_000,
+                1_000_000_000_000,
+                1_000_010_000_000,
+                &[2],
+            ),
+            (
+                1_000_000_000_000,
+                1_000_006_000_000,
+                1_000_010_000_000,
+                1_000_020_000_000,
+                &[3, 4],
+            ),
+            (
+                1_000_006_000_000,
+                1_000_012_000_000,
+                1_000_010_000_000,
+                1_000_020_000_000,
+                &[5],
+            ),
+        ],
+        (
+            &[
+                1_000_004_043_214,
+                1_000_005_170_874,
+                1_000_007_370_116,
+                1_000_005_190_941,
+                1_000_005_396_174,
+                1_000_008_458_178,
+            ],
+            &[
+                1_000_004_043_215,
+                1_000_005_170_875,
+                1_000_007_370_117,
+                1_000_005_190_942,
+                1_000_005_396_175,
+                1_000_008_458_178,
+            ],
+            &[
+                1_000_004_043_214,
+                1_000_005_170_874,
+                1_000_007_370_116,
+                1_000_005_190_941,
+                1_000_005_396_174,
+                1_000_008_458_178,
+            ],
+        ),
+        (
+            &[
+                1_000_007_908_496,
+                1_000_008_235_293,
+                1_000_006_797_385,
+                1_000_013_833_333,
+                1_000_011_499_999,
+                1_000_012_166_666,
+            ],
+            &[
+                1_000_007_908_497,
+                1_000_008_235_294,
+                1_000_006_797_386,
+                1_000_013_833_334,
+                1_000_011_500_000,
+                1_000_012_166_667,
+            ],
+            &[
+                1_000_007_908_496,
+                1_000_008_235_293,
+                1_000_006_797_385,
+                1_000_013_833_333,
+                1_000_011_499_999,
+                1_000_012_166_666,
+            ],
+        ),
+        8,
+    ),
 ];
 
 /// The seats that each design is solved with.
@@ -302,12 +398,13 @@ fn is_solved(solve: &Solve, vectors: Vectors) -> bool {
         && solve.mid.as_slice() == vectors.2
 }
 
-/// Whether the last of so many levels, and their gap, are the case's.
+/// Whether the rounds are as many, and the last of them and their gap are the case's.
 fn are_levels(rt: &impl Abort, levels: &Levels, case: &Case) {
-    let (_, count, rows, x, y, widest) = case;
+    let (_, (count, passes), rows, x, y, widest) = case;
     let all = levels.as_slice();
-    assert!(rt; all.len() == *count as usize + 1);
-    let last = &all[*count as usize];
+    assert!(rt; *count <= MOST_LEVELS && *passes <= MOST_PASSES);
+    assert!(rt; all.len() == ((*count + 1) * *passes) as usize);
+    let last = all.last().expect(rt, "a round");
     are(rt, &last.regions, rows);
     assert!(rt; is_solved(&last.x, *x) && is_solved(&last.y, *y));
     assert_eq!(rt; gap(levels), *widest);
@@ -337,21 +434,26 @@ const SCHEDULES: &[&[Event]] = &[
 ];
 
 #[test]
-fn designs_have_levels(rt: HostRuntime) -> Result<(), Fail> {
+fn designs_have_rounds(rt: HostRuntime) -> Result<(), Fail> {
     for case in CASES {
         let network = made(&rt, rt.alloc(), &case.0).expect(&rt, "a network");
         let reach = reach(rt.alloc(), &network)?;
         for seats in SEATS {
-            assert!(rt; case.1 <= MOST_LEVELS && 1 <= *seats && *seats <= MOST_SEATS);
+            let (levels, passes) = case.1;
+            assert!(rt; levels <= MOST_LEVELS && 1 <= passes && passes <= MOST_PASSES);
+            assert!(rt;
+                (levels + 1) * passes <= MOST_ROUNDS && 1 <= *seats && *seats <= MOST_SEATS
+            );
             let options = Options {
-                levels: case.1,
+                levels,
+                passes,
                 seats: *seats,
             };
-            let levels = levels(&rt, rt.alloc(), &network, &reach, options, &OpenGate)?;
-            are_levels(&rt, &levels, case);
+            let rounds = level_run::levels(&rt, rt.alloc(), &network, &reach, options, &OpenGate)?;
+            are_levels(&rt, &rounds, case);
             for events in SCHEDULES {
-                let levels = levels_by(rt.alloc(), &network, &reach, options, events)?;
-                are_levels(&rt, &levels, case);
+                let rounds = levels_by(rt.alloc(), &network, &reach, options, events)?;
+                are_levels(&rt, &rounds, case);
             }
         }
     }

@@ -147,6 +147,7 @@ fn a_net_of_17_nodes_is_a_star(rt: HostRuntime) -> Result<(), Fail> {
         let reach = reach(rt.alloc(), &network)?;
         let options = Options {
             levels: 0,
+            passes: 1,
             seats: 2,
         };
         let levels = levels(&rt, rt.alloc(), &network, &reach, options, &OpenGate)?;

@@ -1,5 +1,6 @@
-use Rattle.level_run.specs.Levels.{IsLevels}
+use Rattle.std.proofs.Common.{◌+◌}
+use Rattle.level_run.specs.Levels.{AreRounds}
 use Rattle.level_run.proofs.solving.Player.levels.Given as goal
 
-abbrev pub invariant-loop-n : goal.invariant-loop-n
-invariant-loop-n l = IsLevels l.network l.n l.levels
+abbrev pub invariant-loop-r : goal.invariant-loop-r
+invariant-loop-r l = AreRounds l.network l.rounds.passes (l.r + 1) l.levels
