@@ -10,8 +10,8 @@ use Rattle.clap.specs.Takes.{entered_passes, value_passes}
 use Rattle.clap.specs.Walk.{nothing_held, walk}
 use Rattle.clap.specs.declared.builder.value_parser.ValueParser.TheVariants.{Unsigned}
 use Rattle.relax_crew.specs.declared.range.TheConstants.{MOST_SEATS}
-use Rattle.level_run.specs.declared.hierarchy.TheConstants.{MOST_LEVELS}
-use Rattle.proud_words.specs.Command.{levels_rule, proud_command, seats_rule}
+use Rattle.level_run.specs.declared.rounds.TheConstants.{MOST_LEVELS, MOST_PASSES}
+use Rattle.proud_words.specs.Command.{levels_rule, passes_rule, proud_command, seats_rule}
 use Rattle.proud_words.specs.Forms.Texts.{HasNumbers}
 use Rattle.proud_words.proofs.Passing.{Setting, level_text}
 use Rattle.proud_words.proofs.Taking.{and_true, level_take}
@@ -45,7 +45,7 @@ text_passes : (words : List Text) (id : Text) (a : Rule) (text : Text) → Setti
 text_passes words id a text s e found =
     let rest = argument_words proud_command words in
     let level = (both _ _ e).1 in
-    level_text whole.top (names_of whole) id a rest (is_some (entered whole (walk whole.top.rules (names_of whole) nothing_held rest).stopped)) text s (refl, (refl, (refl, (refl, (refl, (refl, (refl, tt))))))) level found
+    level_text whole.top (names_of whole) id a rest (is_some (entered whole (walk whole.top.rules (names_of whole) nothing_held rest).stopped)) text s (refl, (refl, (refl, (refl, (refl, (refl, (refl, (refl, tt)))))))) level found
 
 number_passes : (words : List Text) (id : Text) (a : Rule) (low high : ℕ) → Setting whole.top.rules id a → ((text : Text) → value_passes a text ≡ true → IsUnsignedIn low high text)
     → takes proud_command words ≡ true → IfSome (first_of id (matches_of proud_command words)) (IsUnsignedIn low high)
@@ -58,6 +58,7 @@ number_passes words id a low high s reads e = by_text (first_of id (matches_of p
 -- the numbers that taken words give lie in their ranges
 pub taken_numbers : (words : List Text) → takes proud_command words ≡ true → HasNumbers (matches_of proud_command words)
 taken_numbers words e = record {
-  levels = number_passes words (codes "levels") (with_index 1 (filled levels_rule)) 0 MOST_LEVELS (record { rule = refl; each = (refl, (refl, (refl, (refl, (refl, (refl, (refl, tt))))))) }) (λ text p. accepts-Accepts false (Unsigned 0 MOST_LEVELS) text p) e;
-  seats = number_passes words (codes "seats") (with_index 1 (filled seats_rule)) 1 MOST_SEATS (record { rule = refl; each = (refl, (refl, (refl, (refl, (refl, (refl, (refl, tt))))))) }) (λ text p. accepts-Accepts false (Unsigned 1 MOST_SEATS) text p) e;
+  levels = number_passes words (codes "levels") (with_index 1 (filled levels_rule)) 0 MOST_LEVELS (record { rule = refl; each = (refl, (refl, (refl, (refl, (refl, (refl, (refl, (refl, tt)))))))) }) (λ text p. accepts-Accepts false (Unsigned 0 MOST_LEVELS) text p) e;
+  passes = number_passes words (codes "passes") (with_index 1 (filled passes_rule)) 1 MOST_PASSES (record { rule = refl; each = (refl, (refl, (refl, (refl, (refl, (refl, (refl, (refl, tt)))))))) }) (λ text p. accepts-Accepts false (Unsigned 1 MOST_PASSES) text p) e;
+  seats = number_passes words (codes "seats") (with_index 1 (filled seats_rule)) 1 MOST_SEATS (record { rule = refl; each = (refl, (refl, (refl, (refl, (refl, (refl, (refl, (refl, tt)))))))) }) (λ text p. accepts-Accepts false (Unsigned 1 MOST_SEATS) text p) e;
 }

@@ -10,4 +10,4 @@ source_value (Design name) = of_design (string_bytes name)
 source_value (Grid grid) = of_grid grid
 
 abbrev pub request_value : Request → RequestValue
-request_value request = record { levels = request.levels; seats = request.seats; out = string_bytes request.out; schedule = option_map string_bytes request.schedule; source = source_value request.source }
+request_value request = record { rounds = request.rounds; seats = request.seats; out = string_bytes request.out; schedule = option_map string_bytes request.schedule; source = source_value request.source }

@@ -1,10 +1,11 @@
 //! What the words ask for.
 
-ghost use Rattle.std.specs.Prelude.{◌≡◌, ◌≤◌, ℕ, List, IfOk, IfErr, IfSome, map, option_map, unwrap_or, string_bytes};
+ghost use Rattle.std.specs.Prelude.{◌≡◌, ◌<◌, ◌≤◌, ℕ, List, IfOk, IfErr, IfSome, map, option_map, unwrap_or, string_bytes};
 ghost use Rattle.clap.specs.Words.{IsUnsignedIn, found_of, first_of, rows_of};
 ghost use Rattle.relax_crew.specs.Crew.{IsCrewSize};
 ghost use Rattle.relax_crew.specs.declared.range.TheConstants.{MOST_SEATS};
-ghost use Rattle.level_run.specs.declared.hierarchy.TheConstants.{MOST_LEVELS};
+ghost use Rattle.level_run.specs.Rounds.{IsInLimits, rounds_in};
+ghost use Rattle.level_run.specs.declared.rounds.TheConstants.{MOST_LEVELS, MOST_PASSES, MOST_ROUNDS};
 ghost use Rattle.proud_words.specs.declared.fault.WordsFault.TheVariants.{Usage};
 ghost use Rattle.proud_words.specs.Request.{IsReading, IsRequest, IsSource, RequestValue, SourceValue, number_of, stem, usual_out};
 ghost use Rattle.proud_words.specs.Asked.{request_value, source_value};
@@ -16,10 +17,14 @@ use book_outer::Words;
 use book_text::Memory;
 use clap::ArgMatches;
 use grid_design::{Grid, one_grid, read_grid};
+use level_run::{MOST_LEVELS, MOST_PASSES, MOST_ROUNDS, Rounds};
 use std::alloc::Global;
 
 /// How often the regions are cut where the words don't say.
 pub const USUAL_LEVELS: u32 = 4;
+
+/// How often each level is solved where the words don't say.
+pub const USUAL_PASSES: u32 = 2;
 
 /// How many seats solve a system where the words don't say.
 pub const USUAL_SEATS: usize = 4;
@@ -36,8 +41,8 @@ pub enum Source {
 /// What the words ask for.
 #[derive(Debug, Drop)]
 pub struct Request {
-    /// How often the regions are cut: from 0 to `MOST_LEVELS`.
-    pub levels: u32,
+    /// How often the regions are cut, and how often each level is solved: within their limits.
+    pub rounds: Rounds,
     /// How many seats solve each system side by side: from 1 to `MOST_SEATS`.
     pub seats: usize,
     /// The name of the output file.
@@ -52,7 +57,7 @@ pub struct Request {
 /// does, as those for help, and `Memory` for want of memory.
 pub fn requested(alloc: Global, words: &Words) -> Result<Request, WordsFault>
     ensures asked { IfOk result (λ request. IsRequest words.now (request_value request)) }
-    ensures levels { IfOk result (λ request. request.levels ≤ MOST_LEVELS) }
+    ensures rounds { IfOk result (λ request. IsInLimits request.rounds) }
     ensures seats { IfOk result (λ request. IsCrewSize request.seats) }
     ensures usage { IfErr result (λ fault. fault ≡ Usage → (request : RequestValue) → IsRequest words.now request → ⊥) }
 {
@@ -63,7 +68,7 @@ pub fn requested(alloc: Global, words: &Words) -> Result<Request, WordsFault>
 /// Words ask for one request at most, whose numbers lie in their ranges.
 pub fn one_request()
     ensures one { (words : List (List ℕ)) (a b : RequestValue) → IsRequest words a → IsRequest words b → a ≡ b }
-    ensures levels { (words : List (List ℕ)) (request : RequestValue) → IsRequest words request → request.levels ≤ MOST_LEVELS }
+    ensures rounds { (words : List (List ℕ)) (request : RequestValue) → IsRequest words request → IsInLimits request.rounds }
     ensures seats { (words : List (List ℕ)) (request : RequestValue) → IsRequest words request → IsCrewSize request.seats }
 {
     one_grid();
@@ -83,7 +88,7 @@ fn texts_of(alloc: Global, words: &Words) -> Result<Vec<&str>, Memory>
 /// What these words ask for.
 fn asked_by<'a>(alloc: Global, words: &'a [&'a str]) -> Result<Request, WordsFault>
     ensures asked { IfOk result (λ request. IsRequest (map (λ text. text.now) words.entry.now) (request_value request)) }
-    ensures levels { IfOk result (λ request. request.levels ≤ MOST_LEVELS) }
+    ensures rounds { IfOk result (λ request. IsInLimits request.rounds) }
     ensures seats { IfOk result (λ request. IsCrewSize request.seats) }
     ensures usage { IfErr result (λ fault. fault ≡ Usage → (request : RequestValue) → IsRequest (map (λ text. text.now) words.entry.now) request → ⊥) }
 {
@@ -96,18 +101,42 @@ fn asked_by<'a>(alloc: Global, words: &'a [&'a str]) -> Result<Request, WordsFau
 fn request_of(alloc: Global, matches: &ArgMatches<'_>) -> Result<Request, WordsFault>
     requires numbers { HasNumbers (rows_of (found_of matches.now)) }
     ensures asked { IfOk result (λ request. IsReading (rows_of (found_of matches.now)) (request_value request)) }
-    ensures levels { IfOk result (λ request. request.levels ≤ MOST_LEVELS) }
+    ensures rounds { IfOk result (λ request. IsInLimits request.rounds) }
     ensures seats { IfOk result (λ request. IsCrewSize request.seats) }
     ensures usage { IfErr result (λ fault. fault ≡ Usage → (request : RequestValue) → IsReading (rows_of (found_of matches.now)) request → ⊥) }
 {
     let source = source_of(alloc, matches.get_str("DESIGN"), matches.get_str("grid"))?;
+    let rounds = rounds_of(matches.get_str("levels"), matches.get_str("passes"))?;
     Ok(Request {
-        levels: levels_of(matches.get_str("levels")),
+        rounds,
         seats: seats_of(matches.get_str("seats")),
         out: out_of(alloc, matches.get_str("out"), &source)?,
         schedule: schedule_of(alloc, matches.get_str("schedule"))?,
         source,
     })
+}
+
+/// The rounds: so many levels, each solved so often, where that isn't too many rounds in all.
+fn rounds_of(levels: Option<&str>, passes: Option<&str>) -> Result<Rounds, WordsFault>
+    requires levels { IfSome levels (λ text. IsUnsignedIn 0 MOST_LEVELS text.now) }
+    requires passes { IfSome passes (λ text. IsUnsignedIn 1 MOST_PASSES text.now) }
+    ensures levels { IfOk result (λ rounds. rounds.levels ≡ unwrap_or (option_map number_of (text_in levels.entry)) USUAL_LEVELS) }
+    ensures passes { IfOk result (λ rounds. rounds.passes ≡ unwrap_or (option_map number_of (text_in passes.entry)) USUAL_PASSES) }
+    ensures limits { IfOk result IsInLimits }
+    ensures usage { IfErr result (λ _. MOST_ROUNDS < rounds_in (record {
+      levels = unwrap_or (option_map number_of (text_in levels.entry)) USUAL_LEVELS;
+      passes = unwrap_or (option_map number_of (text_in passes.entry)) USUAL_PASSES;
+    })) }
+{
+    let rounds = Rounds {
+        levels: levels_of(levels),
+        passes: passes_of(passes),
+    };
+    if (rounds.levels + 1) * rounds.passes <= MOST_ROUNDS {
+        Ok(rounds)
+    } else {
+        Err(WordsFault::Usage)
+    }
 }
 
 /// The number of levels: that of the option's text, or the usual one.
@@ -119,6 +148,19 @@ fn levels_of(text: Option<&str>) -> u32
     match text {
         Some(text) => text.parse().unwrap_or(USUAL_LEVELS),
         None => USUAL_LEVELS,
+    }
+}
+
+/// The number of passes: that of the option's text, or the usual one.
+fn passes_of(text: Option<&str>) -> u32
+    requires { IfSome text (λ text. IsUnsignedIn 1 MOST_PASSES text.now) }
+    ensures number { result ≡ unwrap_or (option_map number_of (text_in text.entry)) USUAL_PASSES }
+    ensures some { 1 ≤ result }
+    ensures few { result ≤ MOST_PASSES }
+{
+    match text {
+        Some(text) => text.parse().unwrap_or(USUAL_PASSES),
+        None => USUAL_PASSES,
     }
 }
 

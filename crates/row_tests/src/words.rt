@@ -5,31 +5,53 @@ use grid_design::Grid;
 use proud_words::{Request, Source, WordsFault, requested};
 use std::test::Fail;
 
-/// Words that ask for a design, and what is expected: levels, seats, the output file and the design.
-const DESIGNS: [(&str, u32, usize, &str, &str); 15] = [
-    ("a.aux", 4, 4, "a.proud.pl", "a.aux"),
-    ("a", 4, 4, "a.proud.pl", "a"),
-    ("dir/a.AUX", 4, 4, "dir/a.AUX.proud.pl", "dir/a.AUX"),
-    ("a.aux.aux", 4, 4, "a.aux.proud.pl", "a.aux.aux"),
-    (".aux", 4, 4, ".proud.pl", ".aux"),
-    ("--levels 0 a.aux", 0, 4, "a.proud.pl", "a.aux"),
-    ("--levels=12 a.aux", 12, 4, "a.proud.pl", "a.aux"),
-    ("a.aux --seats 64 --levels 3", 3, 64, "a.proud.pl", "a.aux"),
-    ("--seats 1 a.aux --out b.pl", 4, 1, "b.pl", "a.aux"),
-    ("--out=a.aux a.aux", 4, 4, "a.aux", "a.aux"),
-    ("--levels +03 a.aux", 3, 4, "a.proud.pl", "a.aux"),
-    ("-- --levels", 4, 4, "--levels.proud.pl", "--levels"),
-    ("--levels 3 -- a.aux", 3, 4, "a.proud.pl", "a.aux"),
-    ("-- a.aux", 4, 4, "a.proud.pl", "a.aux"),
-    ("-", 4, 4, "-.proud.pl", "-"),
+/// Words that ask for a design, and what is expected: levels and passes, seats, the output file and the design.
+const DESIGNS: [(&str, (u32, u32), usize, &str, &str); 19] = [
+    ("a.aux", (4, 2), 4, "a.proud.pl", "a.aux"),
+    ("a", (4, 2), 4, "a.proud.pl", "a"),
+    ("dir/a.AUX", (4, 2), 4, "dir/a.AUX.proud.pl", "dir/a.AUX"),
+    ("a.aux.aux", (4, 2), 4, "a.aux.proud.pl", "a.aux.aux"),
+    (".aux", (4, 2), 4, ".proud.pl", ".aux"),
+    ("--levels 0 a.aux", (0, 2), 4, "a.proud.pl", "a.aux"),
+    ("--levels=12 a.aux", (12, 2), 4, "a.proud.pl", "a.aux"),
+    (
+        "a.aux --seats 64 --levels 3",
+        (3, 2),
+        64,
+        "a.proud.pl",
+        "a.aux",
+    ),
+    ("--seats 1 a.aux --out b.pl", (4, 2), 1, "b.pl", "a.aux"),
+    ("--out=a.aux a.aux", (4, 2), 4, "a.aux", "a.aux"),
+    ("--levels +03 a.aux", (3, 2), 4, "a.proud.pl", "a.aux"),
+    ("-- --levels", (4, 2), 4, "--levels.proud.pl", "--levels"),
+    ("--levels 3 -- a.aux", (3, 2), 4, "a.proud.pl", "a.aux"),
+    ("--passes 5 a.aux", (4, 5), 4, "a.proud.pl", "a.aux"),
+    ("a.aux --passes 1", (4, 1), 4, "a.proud.pl", "a.aux"),
+    (
+        "--passes=8 --levels=2 a.aux",
+        (2, 8),
+        4,
+        "a.proud.pl",
+        "a.aux",
+    ),
+    (
+        "--levels 12 --passes +2 a.aux",
+        (12, 2),
+        4,
+        "a.proud.pl",
+        "a.aux",
+    ),
+    ("-- a.aux", (4, 2), 4, "a.proud.pl", "a.aux"),
+    ("-", (4, 2), 4, "-.proud.pl", "-"),
 ];
 
-/// Words that ask for a grid, and what is expected: levels, seats, the output file, and rows, columns and number.
-const GRIDS: [(&str, u32, usize, &str, u32, u32, u64); 3] = [
-    ("--grid 2,3,1", 4, 4, "grid.proud.pl", 2, 3, 1),
+/// Words that ask for a grid, and what is expected: levels and passes, seats, the output file, and rows, columns and number.
+const GRIDS: [(&str, (u32, u32), usize, &str, u32, u32, u64); 3] = [
+    ("--grid 2,3,1", (4, 2), 4, "grid.proud.pl", 2, 3, 1),
     (
         "--grid=64,1,18446744073709551615 --levels 12",
-        12,
+        (12, 2),
         4,
         "grid.proud.pl",
         64,
@@ -38,7 +60,7 @@ const GRIDS: [(&str, u32, usize, &str, u32, u32, u64); 3] = [
     ),
     (
         "--seats 7 --grid 12,12,5 --out a.pl",
-        4,
+        (4, 2),
         7,
         "a.pl",
         12,
@@ -48,7 +70,7 @@ const GRIDS: [(&str, u32, usize, &str, u32, u32, u64); 3] = [
 ];
 
 /// Words that ask for nothing.
-const REFUSED: [&str; 28] = [
+const REFUSED: [&str; 34] = [
     "",
     "--seats 0 a.aux",
     "--seats 65 a.aux",
@@ -60,6 +82,12 @@ const REFUSED: [&str; 28] = [
     "--levels 1.0 a.aux",
     "--levels 18446744073709551616 a.aux",
     "--levels a.aux",
+    "--passes 0 a.aux",
+    "--passes 9 a.aux",
+    "--passes a.aux",
+    "--passes 6 a.aux",
+    "--levels 12 --passes 3 a.aux",
+    "--passes 2 --passes 2 a.aux",
     "--grid 2,2",
     "--grid 2,2,1 a.aux",
     "--grid 0,2,1",
@@ -93,9 +121,9 @@ fn asked(rt: &HostRuntime, line: &str) -> Result<Request, WordsFault> {
 
 #[test]
 fn designs_are_asked_for(rt: HostRuntime) -> Result<(), Fail> {
-    for (line, levels, seats, out, design) in DESIGNS {
+    for (line, (levels, passes), seats, out, design) in DESIGNS {
         let request = asked(&rt, line).ok().ok_or(line)?;
-        assert!(rt; request.levels == levels);
+        assert!(rt; request.rounds.levels == levels && request.rounds.passes == passes);
         assert!(rt; request.seats == seats);
         assert!(rt; request.out.as_str() == out);
         assert!(rt; matches!(&request.source, Source::Design(name) if name.as_str() == design));
@@ -105,14 +133,14 @@ fn designs_are_asked_for(rt: HostRuntime) -> Result<(), Fail> {
 
 #[test]
 fn grids_are_asked_for(rt: HostRuntime) -> Result<(), Fail> {
-    for (line, levels, seats, out, rows, columns, number) in GRIDS {
+    for (line, (levels, passes), seats, out, rows, columns, number) in GRIDS {
         let request = asked(&rt, line).ok().ok_or(line)?;
         let grid = Grid {
             rows,
             columns,
             number,
         };
-        assert!(rt; request.levels == levels);
+        assert!(rt; request.rounds.levels == levels && request.rounds.passes == passes);
         assert!(rt; request.seats == seats);
         assert!(rt; request.out.as_str() == out);
         assert!(rt; matches!(&request.source, Source::Grid(found) if *found == grid));
