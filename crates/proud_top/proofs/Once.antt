@@ -21,6 +21,7 @@ use Rattle.book_design.specs.Values.{DesignValue}
 use Rattle.book_design.specs.Answers.{HasOneJoin}
 use Rattle.net_model.specs.Values.{NetworkValue}
 use Rattle.net_model.specs.Answers.{HasOneNetwork}
+use Rattle.level_run.specs.declared.rounds.Rounds.{Rounds}
 use Rattle.level_run.specs.declared.level.Level.{Level}
 use Rattle.level_run.specs.Levels.{IsLevels, IsGap}
 use Rattle.row_space.specs.Values.{SegmentsValue}
@@ -41,7 +42,7 @@ pub record OneAnswer : Type 0 where
   pub schedule : (text : List ℕ) → HasOneAnswer schedule_grammar text
   pub join : (files : Records) → HasOneJoin files
   pub network : (design : DesignValue) → HasOneNetwork design
-  pub levels : (network : NetworkValue) (count : ℕ) (a b : List Level) → IsLevels network count a → IsLevels network count b → a ≡ b
+  pub levels : (network : NetworkValue) (rounds : Rounds) (a b : List Level) → IsLevels network rounds a → IsLevels network rounds b → a ≡ b
   pub gap : (levels : List Level) (a b : ℕ) → IsGap levels a → IsGap levels b → a ≡ b
   pub greedy : (rows : SegmentsValue) (cells : CellsValue) → HasOneAnswerAtMost rows cells
 

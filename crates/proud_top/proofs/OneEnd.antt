@@ -14,6 +14,8 @@ use Rattle.pad_reach.specs.Chain.{Joint, HasChain}
 use Rattle.pad_reach.specs.Reaches.{IsFirstUnanchored}
 use Rattle.net_model.specs.Values.{NetworkValue}
 use Rattle.net_model.specs.Webs.{joints_of}
+use Rattle.level_run.specs.declared.rounds.Rounds.{Rounds}
+use Rattle.level_run.specs.Rounds.{last_round}
 use Rattle.level_run.specs.declared.level.Level.{Level}
 use Rattle.level_run.specs.Levels.{IsLevels, IsGap, level_at}
 use Rattle.row_space.specs.Values.{SegmentsValue}
@@ -245,10 +247,10 @@ one_reaches network (Err r) (Ok y) (f, e, h) k = absurd (h.none (k f (rw length-
 one_reaches network (Err r) (Err q) (f, e, h) (g, d, k) = ap Err (e ∙ ap Unanchored (one_unanchored (joints_of network) f g h k) ∙ sym d)
 
 -- a network has one list of levels
-pub one_solves : OneAnswer → (network : NetworkValue) (count : ℕ) (a b : Result (List Level) Refusal) → solves network count a → solves network count b → a ≡ b
-one_solves one network count (Ok a) (Ok b) h k = ap Ok (one.levels network count a b h.levels_are k.levels_are)
-one_solves one network count (Ok a) (Err q) h k = absurd k
-one_solves one network count (Err r) b h k = absurd h
+pub one_solves : OneAnswer → (network : NetworkValue) (rounds : Rounds) (a b : Result (List Level) Refusal) → solves network rounds a → solves network rounds b → a ≡ b
+one_solves one network rounds (Ok a) (Ok b) h k = ap Ok (one.levels network rounds a b h.levels_are k.levels_are)
+one_solves one network rounds (Ok a) (Err q) h k = absurd k
+one_solves one network rounds (Err r) b h k = absurd h
 
 -- the rows of a design have one list of segments
 pub one_spaces : (design : DesignValue) (a b : Result SegmentsValue Refusal) → spaces design a → spaces design b → a ≡ b
@@ -257,10 +259,10 @@ one_spaces design (Ok x) (Err q) h k = absurd k
 one_spaces design (Err r) b h k = absurd h
 
 -- its cells wish one thing each
-pub one_wishes : (design : DesignValue) (count : ℕ) (levels : List Level) (a b : Result CellsValue Refusal) → wishes design count levels a → wishes design count levels b → a ≡ b
-one_wishes design count levels (Ok x) (Ok y) h k = ap Ok (one_cells design (level_at levels count) x y h k)
-one_wishes design count levels (Ok x) (Err q) h k = absurd k
-one_wishes design count levels (Err r) b h k = absurd h
+pub one_wishes : (design : DesignValue) (rounds : Rounds) (levels : List Level) (a b : Result CellsValue Refusal) → wishes design rounds levels a → wishes design rounds levels b → a ≡ b
+one_wishes design rounds levels (Ok x) (Ok y) h k = ap Ok (one_cells design (level_at levels (last_round rounds)) x y h k)
+one_wishes design rounds levels (Ok x) (Err q) h k = absurd k
+one_wishes design rounds levels (Err r) b h k = absurd h
 
 -- the greedy rule ends in one way
 pub one_legalises : OneAnswer → (rows : SegmentsValue) (cells : CellsValue) (a b : Result (List Place) Refusal) → legalises rows cells a → legalises rows cells b → a ≡ b
@@ -286,8 +288,8 @@ one_measures design corners (Ok x) (Err q) h k = absurd k
 one_measures design corners (Err r) b h k = absurd h
 
 -- and levels have one gap
-one_report : OneAnswer → (design : DesignValue) (count : ℕ) (levels : List Level) (wire : ℕ) (s t : List ℕ) (g k : ℕ) → IsGap levels g → s ≡ report_of design count g wire → IsGap levels k → t ≡ report_of design count k wire → s ≡ t
-one_report one design count levels wire s t g k is s_is other t_is = s_is ∙ ap (λ (gap : ℕ). report_of design count gap wire) (one.gap levels g k is other) ∙ sym t_is
+one_report : OneAnswer → (design : DesignValue) (rounds : Rounds) (levels : List Level) (wire : ℕ) (s t : List ℕ) (g k : ℕ) → IsGap levels g → s ≡ report_of design rounds.levels g wire → IsGap levels k → t ≡ report_of design rounds.levels k wire → s ≡ t
+one_report one design rounds levels wire s t g k is s_is other t_is = s_is ∙ ap (λ (gap : ℕ). report_of design rounds.levels gap wire) (one.gap levels g k is other) ∙ sym t_is
 
 both_texts : (a b : PlacedValue) → a.file ≡ b.file → a.report ≡ b.report → a ≡ b
 both_texts a b e f =
@@ -295,83 +297,83 @@ both_texts a b e f =
     let Q : List ℕ → Type 0 = λ report. a ≡ record { file = b.file; report = report } in
     subst Q f (subst P e refl)
 
-pub one_reports : OneAnswer → (design : DesignValue) (count : ℕ) (levels : List Level) (file : List ℕ) (wire : ℕ) (a b : Result PlacedValue Refusal) → reports design count levels file wire a → reports design count levels file wire b → a ≡ b
-one_reports one design count levels file wire (Ok s) (Ok t) (g, is, e, s_is) (k, other, f, t_is) = ap Ok (both_texts s t (e ∙ sym f) (one_report one design count levels wire s.report t.report g k is s_is other t_is))
-one_reports one design count levels file wire (Ok s) (Err q) h k = absurd k
-one_reports one design count levels file wire (Err r) b h k = absurd h
+pub one_reports : OneAnswer → (design : DesignValue) (rounds : Rounds) (levels : List Level) (file : List ℕ) (wire : ℕ) (a b : Result PlacedValue Refusal) → reports design rounds levels file wire a → reports design rounds levels file wire b → a ≡ b
+one_reports one design rounds levels file wire (Ok s) (Ok t) (g, is, e, s_is) (k, other, f, t_is) = ap Ok (both_texts s t (e ∙ sym f) (one_report one design rounds levels wire s.report t.report g k is s_is other t_is))
+one_reports one design rounds levels file wire (Ok s) (Err q) h k = absurd k
+one_reports one design rounds levels file wire (Err r) b h k = absurd h
 
-abbrev from_file : ℕ → DesignValue → List Level → List Corner → List ℕ → Result PlacedValue Refusal → Type 0
-from_file count design levels corners file = measures design corners then λ wire. reports design count levels file wire
+abbrev from_file : Rounds → DesignValue → List Level → List Corner → List ℕ → Result PlacedValue Refusal → Type 0
+from_file rounds design levels corners file = measures design corners then λ wire. reports design rounds levels file wire
 
-abbrev from_corners : ℕ → DesignValue → List Level → List Corner → Result PlacedValue Refusal → Type 0
-from_corners count design levels corners = writes design corners then λ file. measures design corners then λ wire. reports design count levels file wire
+abbrev from_corners : Rounds → DesignValue → List Level → List Corner → Result PlacedValue Refusal → Type 0
+from_corners rounds design levels corners = writes design corners then λ file. measures design corners then λ wire. reports design rounds levels file wire
 
-abbrev from_cells : ℕ → DesignValue → List Level → SegmentsValue → CellsValue → Result PlacedValue Refusal → Type 0
-from_cells count design levels rows cells = legalises rows cells then λ places. places_corners count design levels rows places
+abbrev from_cells : Rounds → DesignValue → List Level → SegmentsValue → CellsValue → Result PlacedValue Refusal → Type 0
+from_cells rounds design levels rows cells = legalises rows cells then λ places. places_corners rounds design levels rows places
 
-abbrev from_spaces : ℕ → DesignValue → List Level → SegmentsValue → Result PlacedValue Refusal → Type 0
-from_spaces count design levels rows = wishes design count levels then λ cells. legalises rows cells then λ places. places_corners count design levels rows places
+abbrev from_spaces : Rounds → DesignValue → List Level → SegmentsValue → Result PlacedValue Refusal → Type 0
+from_spaces rounds design levels rows = wishes design rounds levels then λ cells. legalises rows cells then λ places. places_corners rounds design levels rows places
 
-abbrev from_reaches : ℕ → DesignValue → NetworkValue → Result PlacedValue Refusal → Type 0
-from_reaches count design network = solves network count then λ levels. places_levels count design levels
+abbrev from_reaches : Rounds → DesignValue → NetworkValue → Result PlacedValue Refusal → Type 0
+from_reaches rounds design network = solves network rounds then λ levels. places_levels rounds design levels
 
-abbrev from_network : ℕ → DesignValue → NetworkValue → Result PlacedValue Refusal → Type 0
-from_network count design network = reaches network then λ done. solves network count then λ levels. places_levels count design levels
+abbrev from_network : Rounds → DesignValue → NetworkValue → Result PlacedValue Refusal → Type 0
+from_network rounds design network = reaches network then λ done. solves network rounds then λ levels. places_levels rounds design levels
 
-abbrev from_design : ℕ → DesignValue → Result PlacedValue Refusal → Type 0
-from_design count design = wires design then λ network. reaches network then λ done. solves network count then λ levels. places_levels count design levels
+abbrev from_design : Rounds → DesignValue → Result PlacedValue Refusal → Type 0
+from_design rounds design = wires design then λ network. reaches network then λ done. solves network rounds then λ levels. places_levels rounds design levels
 
-abbrev from_scheduled : ℕ → Records → Unit {0} → Result PlacedValue Refusal → Type 0
-from_scheduled count records done = places_records count records
+abbrev from_scheduled : Rounds → Records → Unit {0} → Result PlacedValue Refusal → Type 0
+from_scheduled rounds records done = places_records rounds records
 
-pub one_end : OneAnswer → (files : List FileEntry) (source : SourceValue) (schedule : Option (List ℕ)) (count : ℕ) (a b : Result PlacedValue Refusal) → places (Some files) source schedule count a
-    → places (Some files) source schedule count b → a ≡ b
-one_end one files source schedule count =
-    one_then (reads (Some files) source) (places_scheduled (Some files) schedule count) (one_reads one files source) (λ records.
-    one_then (schedules (Some files) schedule) (from_scheduled count records) (one_schedules one files schedule) (λ done.
-    one_then (joins records) (from_design count) (one_joins one records) (λ design.
-    one_then (wires design) (from_network count design) (one_wires one design) (λ network.
-    one_then (reaches network) (λ done. from_reaches count design network) (one_reaches network) (λ done.
-    one_then (solves network count) (places_levels count design) (one_solves one network count) (λ levels.
-    one_then (spaces design) (from_spaces count design levels) (one_spaces design) (λ rows.
-    one_then (wishes design count levels) (from_cells count design levels rows) (one_wishes design count levels) (λ cells.
-    one_then (legalises rows cells) (places_corners count design levels rows) (one_legalises one rows cells) (λ sites.
-    one_then (stands design rows sites) (from_corners count design levels) (one_stands design rows sites) (λ corners.
-    one_then (writes design corners) (from_file count design levels corners) (one_writes design corners) (λ file.
-    one_then (measures design corners) (reports design count levels file) (one_measures design corners) (one_reports one design count levels file))))))))))))
+pub one_end : OneAnswer → (files : List FileEntry) (source : SourceValue) (schedule : Option (List ℕ)) (rounds : Rounds) (a b : Result PlacedValue Refusal) → places (Some files) source schedule rounds a
+    → places (Some files) source schedule rounds b → a ≡ b
+one_end one files source schedule rounds =
+    one_then (reads (Some files) source) (places_scheduled (Some files) schedule rounds) (one_reads one files source) (λ records.
+    one_then (schedules (Some files) schedule) (from_scheduled rounds records) (one_schedules one files schedule) (λ done.
+    one_then (joins records) (from_design rounds) (one_joins one records) (λ design.
+    one_then (wires design) (from_network rounds design) (one_wires one design) (λ network.
+    one_then (reaches network) (λ done. from_reaches rounds design network) (one_reaches network) (λ done.
+    one_then (solves network rounds) (places_levels rounds design) (one_solves one network rounds) (λ levels.
+    one_then (spaces design) (from_spaces rounds design levels) (one_spaces design) (λ rows.
+    one_then (wishes design rounds levels) (from_cells rounds design levels rows) (one_wishes design rounds levels) (λ cells.
+    one_then (legalises rows cells) (places_corners rounds design levels rows) (one_legalises one rows cells) (λ sites.
+    one_then (stands design rows sites) (from_corners rounds design levels) (one_stands design rows sites) (λ corners.
+    one_then (writes design corners) (from_file rounds design levels corners) (one_writes design corners) (λ file.
+    one_then (measures design corners) (reports design rounds levels file) (one_measures design corners) (one_reports one design rounds levels file))))))))))))
 
 -- nothing is refused behind the places
-pub never_behind : (count : ℕ) (design : DesignValue) (levels : List Level) (rows : SegmentsValue) (sites : List Place) (refusal : Refusal) → places_corners count design levels rows sites (Err refusal) → ⊥
-never_behind count design levels rows sites refusal (inl none) = none
-never_behind count design levels rows sites refusal (inr (corners, stand, inl none)) = none
-never_behind count design levels rows sites refusal (inr (corners, stand, inr (file, is, inl none))) = none
-never_behind count design levels rows sites refusal (inr (corners, stand, inr (file, is, inr (wire, measured, none)))) = none
+pub never_behind : (rounds : Rounds) (design : DesignValue) (levels : List Level) (rows : SegmentsValue) (sites : List Place) (refusal : Refusal) → places_corners rounds design levels rows sites (Err refusal) → ⊥
+never_behind rounds design levels rows sites refusal (inl none) = none
+never_behind rounds design levels rows sites refusal (inr (corners, stand, inl none)) = none
+never_behind rounds design levels rows sites refusal (inr (corners, stand, inr (file, is, inl none))) = none
+never_behind rounds design levels rows sites refusal (inr (corners, stand, inr (file, is, inr (wire, measured, none)))) = none
 
 -- where the greedy rule finds room for each cell, nothing behind the levels is refused
-never_stuck : OneAnswer → (count : ℕ) (design : DesignValue) (levels : List Level) (refusal : Refusal)
-    → ((cells : CellsValue) → AreCells design (level_at levels count) cells → (sites : List Place) × IsLegalised (segments_of design) cells sites)
-    → places_levels count design levels (Err refusal) → ⊥
-never_stuck one count design levels refusal room flow =
-    by_wishes (through (spaces design) (from_spaces count design levels) (segments_of design) (Err refusal) (one_spaces design) refl flow) where
-      by_room : (cells : CellsValue) → AreCells design (level_at levels count) cells → from_cells count design levels (segments_of design) cells (Err refusal) → ⊥
+never_stuck : OneAnswer → (rounds : Rounds) (design : DesignValue) (levels : List Level) (refusal : Refusal)
+    → ((cells : CellsValue) → AreCells design (level_at levels (last_round rounds)) cells → (sites : List Place) × IsLegalised (segments_of design) cells sites)
+    → places_levels rounds design levels (Err refusal) → ⊥
+never_stuck one rounds design levels refusal room flow =
+    by_wishes (through (spaces design) (from_spaces rounds design levels) (segments_of design) (Err refusal) (one_spaces design) refl flow) where
+      by_room : (cells : CellsValue) → AreCells design (level_at levels (last_round rounds)) cells → from_cells rounds design levels (segments_of design) cells (Err refusal) → ⊥
       by_room cells are (inl (c, s, l, e, stuck)) = let placed = room cells are in (one.greedy (segments_of design) cells).not_both placed.0 c s l placed.1 stuck
-      by_room cells are (inr (sites, is, rest)) = never_behind count design levels (segments_of design) sites refusal rest
+      by_room cells are (inr (sites, is, rest)) = never_behind rounds design levels (segments_of design) sites refusal rest
 
-      by_wishes : from_spaces count design levels (segments_of design) (Err refusal) → ⊥
+      by_wishes : from_spaces rounds design levels (segments_of design) (Err refusal) → ⊥
       by_wishes (inl none) = none
       by_wishes (inr (cells, are, rest)) = by_room cells are rest
 
 -- what is placed is refused for nothing
-pub never_refused : OneAnswer → (files : List FileEntry) (source : SourceValue) (schedule : Option (List ℕ)) (count : ℕ) (records : Records) (design : DesignValue) (network : NetworkValue) (refusal : Refusal)
+pub never_refused : OneAnswer → (files : List FileEntry) (source : SourceValue) (schedule : Option (List ℕ)) (rounds : Rounds) (records : Records) (design : DesignValue) (network : NetworkValue) (refusal : Refusal)
     → reads (Some files) source (Ok records) → schedules (Some files) schedule (Ok tt) → joins records (Ok design) → wires design (Ok network) → ((p : ℕ) → p < length network.points → HasChain (joints_of network) p)
-    → ((levels : List Level) (cells : CellsValue) → IsLevels network count levels → AreCells design (level_at levels count) cells → (sites : List Place) × IsLegalised (segments_of design) cells sites)
-    → places (Some files) source schedule count (Err refusal) → ⊥
-never_refused one files source schedule count records design network refusal accepted scheduled joined wired chains room flow =
-    let behind_files = through (reads (Some files) source) (places_scheduled (Some files) schedule count) records (Err refusal) (one_reads one files source) accepted flow in
-    let behind_schedule = through (schedules (Some files) schedule) (from_scheduled count records) tt (Err refusal) (one_schedules one files schedule) scheduled behind_files in
-    let behind_join = through (joins records) (from_design count) design (Err refusal) (one_joins one records) joined behind_schedule in
-    let behind_wires = through (wires design) (from_network count design) network (Err refusal) (one_wires one design) wired behind_join in
-    none (through (reaches network) (λ done. from_reaches count design network) tt (Err refusal) (one_reaches network) chains behind_wires) where
-      none : from_reaches count design network (Err refusal) → ⊥
+    → ((levels : List Level) (cells : CellsValue) → IsLevels network rounds levels → AreCells design (level_at levels (last_round rounds)) cells → (sites : List Place) × IsLegalised (segments_of design) cells sites)
+    → places (Some files) source schedule rounds (Err refusal) → ⊥
+never_refused one files source schedule rounds records design network refusal accepted scheduled joined wired chains room flow =
+    let behind_files = through (reads (Some files) source) (places_scheduled (Some files) schedule rounds) records (Err refusal) (one_reads one files source) accepted flow in
+    let behind_schedule = through (schedules (Some files) schedule) (from_scheduled rounds records) tt (Err refusal) (one_schedules one files schedule) scheduled behind_files in
+    let behind_join = through (joins records) (from_design rounds) design (Err refusal) (one_joins one records) joined behind_schedule in
+    let behind_wires = through (wires design) (from_network rounds design) network (Err refusal) (one_wires one design) wired behind_join in
+    none (through (reaches network) (λ done. from_reaches rounds design network) tt (Err refusal) (one_reaches network) chains behind_wires) where
+      none : from_reaches rounds design network (Err refusal) → ⊥
       none (inl h) = h
-      none (inr (levels, is, rest)) = never_stuck one count design levels refusal (λ cells are. room levels cells is.levels_are are) rest
+      none (inr (levels, is, rest)) = never_stuck one rounds design levels refusal (λ cells are. room levels cells is.levels_are are) rest

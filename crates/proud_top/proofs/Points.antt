@@ -6,6 +6,7 @@ use Rattle.std.proofs.lemmas.Bool.{lt-ltb, le-ltb}
 use Rattle.std.proofs.lemmas.List.{get_or_push, get_or_append_left}
 use Rattle.std.proofs.lemmas.List.FromFn.{filter_of_map_range_with_len_more, length-map-range_with_len, get_or-map-range_with_len}
 use Rattle.std.proofs.lemmas.List.Sums.{count_by_more_yes, count_by_more_no}
+use Rattle.std.proofs.Math.Nat.{mul-le-mul_left}
 use Rattle.std.proofs.Math.Seq.{take-length}
 use Rattle.book_files.specs.declared.orient.Orient.TheVariants.{N}
 use Rattle.book_design.specs.Values.{NodeValue, DesignValue}
@@ -17,10 +18,12 @@ use Rattle.net_model.specs.Star.{star_nets}
 use Rattle.area_cut.specs.declared.axis.Axis.{Axis}
 use Rattle.area_cut.specs.declared.axis.Axis.TheVariants.{X, Y}
 use Rattle.area_cut.specs.declared.region.Region.{Region}
+use Rattle.level_run.specs.declared.rounds.Rounds.{Rounds}
+use Rattle.level_run.specs.Rounds.{IsInLimits, last_round, rounds_in}
 use Rattle.level_run.specs.declared.level.Solve.{Solve}
 use Rattle.level_run.specs.declared.level.Level.{Level}
 use Rattle.level_run.specs.LevelSystem.{level_point, level_system}
-use Rattle.level_run.specs.Levels.{IsSolve, IsLevel, IsLevels, next_regions, no_level, level_at, solve_on, mids_before, system_of}
+use Rattle.level_run.specs.Levels.{IsSolve, IsLevel, IsLevels, IsNext, no_level, level_at, solve_on, mids_before, system_of}
 use Rattle.pad_reach.specs.Reaches.{IsFirstUnanchored}
 use Rattle.net_model.specs.Webs.{joints_of}
 use Rattle.relax_system.specs.declared.points.Point.{Point}
@@ -99,7 +102,7 @@ abbrev mids_on : Axis → List ℕ → List ℕ → List ℕ
 mids_on X xs ys = xs
 mids_on Y xs ys = ys
 
--- the solves of a level are those of its systems
+-- the solves of a round are those of its systems
 solves_on : (axis : Axis) (network : NetworkValue) (over : List Region) (xs ys : List ℕ) (level : Level) → IsLevel network over xs ys level
     → IsSolve (level_system axis network level.regions (mids_on axis xs ys)) (solve_on axis level)
 solves_on X network over xs ys level h =
@@ -109,44 +112,49 @@ solves_on Y network over xs ys level h =
     let P : List Region → Type 0 = λ regions. IsSolve (level_system Y network regions ys) level.y in
     subst P (sym h.regions) h.y
 
-solves_at : (axis : Axis) (network : NetworkValue) (count : ℕ) (levels : List Level) → IsLevels network count levels → (k : ℕ) → k ≤ count
+solves_at : (axis : Axis) (network : NetworkValue) (rounds : Rounds) (levels : List Level) → IsLevels network rounds levels → (k : ℕ) → k < rounds_in rounds
     → IsSolve (system_of axis network levels k) (solve_on axis (level_at levels k))
-solves_at X network count levels h zero within = solves_on X network _ _ _ (level_at levels 0) (h.first no_level)
-solves_at Y network count levels h zero within = solves_on Y network _ _ _ (level_at levels 0) (h.first no_level)
-solves_at axis network count levels h (suc k) within =
+solves_at X network rounds levels h zero within = solves_on X network _ _ _ (level_at levels 0) (h.first no_level)
+solves_at Y network rounds levels h zero within = solves_on Y network _ _ _ (level_at levels 0) (h.first no_level)
+solves_at axis network rounds levels h (suc k) within =
     let more : k + 1 ≡ suc k = omega arith in
-    let P : ℕ → Type 0 = λ j. IsLevel network (next_regions network (level_at levels k)) (level_at levels k).x.mid (level_at levels k).y.mid (level_at levels j) in
-    behind axis network levels k (subst P more (h.next k no_level (omega arith))) where
-      behind : (axis : Axis) (network : NetworkValue) (levels : List Level) (k : ℕ)
-          → IsLevel network (next_regions network (level_at levels k)) (level_at levels k).x.mid (level_at levels k).y.mid (level_at levels (suc k))
+    let P : ℕ → Type 0 = λ j. IsNext network rounds.passes k (level_at levels k) (level_at levels j) in
+    behind axis network rounds levels k (subst P more (h.next k no_level (omega arith))) where
+      behind : (axis : Axis) (network : NetworkValue) (rounds : Rounds) (levels : List Level) (k : ℕ)
+          → IsNext network rounds.passes k (level_at levels k) (level_at levels (suc k))
           → IsSolve (system_of axis network levels (suc k)) (solve_on axis (level_at levels (suc k)))
-      behind X network levels k next = solves_on X network _ _ _ (level_at levels (suc k)) next
-      behind Y network levels k next = solves_on Y network _ _ _ (level_at levels (suc k)) next
+      behind X network rounds levels k next = solves_on X network _ _ _ (level_at levels (suc k)) next
+      behind Y network rounds levels k next = solves_on Y network _ _ _ (level_at levels (suc k)) next
 
--- the last level is over the points of its network, where its systems are valid
-pub last_over : (network : NetworkValue) (count : ℕ) (levels : List Level) → ((axis : Axis) → IsValid (system_of axis network levels count)) → IsLevels network count levels
-    → IsLastOver (length network.points) count levels
-last_over network count levels valid h =
+-- there is a last round
+pub last_there : (rounds : Rounds) → IsInLimits rounds → last_round rounds < rounds_in rounds
+last_there rounds limits = omega (arith, mul-le-mul_left (rounds.levels + 1) limits.some)
+
+-- the last round is over the points of its network, where its systems are valid
+pub last_over : (network : NetworkValue) (rounds : Rounds) (levels : List Level) → IsInLimits rounds → ((axis : Axis) → IsValid (system_of axis network levels (last_round rounds))) → IsLevels network rounds levels
+    → IsLastOver (length network.points) (last_round rounds) levels
+last_over network rounds levels limits valid h =
     let many = h.many in
-    record { there = omega arith; last = record { x = on X; y = on Y } } where
-      on : (axis : Axis) → IsOver (length network.points) (solve_on axis (level_at levels count))
+    let last = last_there rounds limits in
+    record { there = omega arith; over = record { x = on X; y = on Y } } where
+      on : (axis : Axis) → IsOver (length network.points) (solve_on axis (level_at levels (last_round rounds)))
       on axis =
-          let points = length-map-range_with_len (level_point axis network (level_at levels count).regions (mids_before axis network levels count)) 0 (length network.points) in
-          let P : ℕ → Type 0 = λ n. IsOver n (solve_on axis (level_at levels count)) in
-          subst P points (solve_over (system_of axis network levels count) (solve_on axis (level_at levels count)) (valid axis) (solves_at axis network count levels h count (omega arith)))
+          let points = length-map-range_with_len (level_point axis network (level_at levels (last_round rounds)).regions (mids_before axis network levels (last_round rounds))) 0 (length network.points) in
+          let P : ℕ → Type 0 = λ n. IsOver n (solve_on axis (level_at levels (last_round rounds))) in
+          subst P points (solve_over (system_of axis network levels (last_round rounds)) (solve_on axis (level_at levels (last_round rounds))) (valid axis) (solves_at axis network rounds levels h (last_round rounds) (last_there rounds limits)))
 
 -- and so over the movable nodes of the design, which are the first of them
 first_over : (few many : ℕ) (solve : Solve) → few ≤ many → IsOver many solve → IsOver few solve
 first_over few many solve less h = record { all = omega (arith, less, h.all); near = λ p there. h.near p (omega (arith, less, there)) }
 
-pub over_cells : (design : DesignValue) (network : NetworkValue) (count : ℕ) (levels : List Level) → IsNetwork design network → IsLastOver (length network.points) count levels
-    → IsLastOver (count_by is_movable design.nodes) count levels
-over_cells design network count levels made h =
+pub over_cells : (design : DesignValue) (network : NetworkValue) (rounds : Rounds) (levels : List Level) → IsNetwork design network → IsLastOver (length network.points) (last_round rounds) levels
+    → IsLastOver (count_by is_movable design.nodes) (last_round rounds) levels
+over_cells design network rounds levels made h =
     let less : count_by is_movable design.nodes ≤ length network.points = omega (arith, network_counted design network made, points_counted design) in
-    let last = level_at levels count in
+    let last = level_at levels (last_round rounds) in
     record {
       there = h.there;
-      last = record { x = first_over _ (length network.points) last.x less h.last.x; y = first_over _ (length network.points) last.y less h.last.y };
+      over = record { x = first_over _ (length network.points) last.x less h.over.x; y = first_over _ (length network.points) last.y less h.over.y };
     }
 
 -- a cell that no chain leads from is a movable node

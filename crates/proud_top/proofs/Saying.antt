@@ -15,6 +15,7 @@ use Rattle.proud_top.specs.declared.status.Status.{Status}
 use Rattle.proud_top.specs.declared.status.Status.TheVariants.{Done, Usage, Refused, ReadFault, WriteFault, Memory}
 use Rattle.proud_top.specs.declared.stop.Stop.{Stop}
 use Rattle.proud_top.specs.declared.stop.Stop.TheVariants as stop
+use Rattle.level_run.specs.declared.rounds.Rounds.{Rounds}
 use Rattle.level_run.specs.declared.level.Level.{Level}
 use Rattle.row_space.specs.Values.{SegmentsValue}
 use Rattle.row_legal.specs.Cells.{CellsValue}
@@ -108,7 +109,7 @@ up_to_since name placed f g f' s s' kept (report_put file got) = report_put (fil
 -- as what the request is placed, before it is delivered
 pub record IsPlacedAt (words : List (List ℕ)) (request : RequestValue) (old new : FolderState) (placed : PlacedValue) : Type 0 where
   pub asked : IsRequest words request
-  pub flow : places old.files request.source request.schedule request.levels (Ok placed)
+  pub flow : places old.files request.source request.schedule request.rounds (Ok placed)
   pub read : HasReadAll request.source request.schedule old new
   pub legal : IsLegalText (λ records. reads old.files request.source (Ok records)) placed.file
 
@@ -171,51 +172,51 @@ source_reads o (of_grid grid) texts records h k =
     subst P h.0 (h.1, k)
 
 -- the flow from the texts on is that from the source on
-flow_texts : (o : Option (List FileEntry)) (source : SourceValue) (schedule : Option (List ℕ)) (count : ℕ) (texts : Texts) (end : Result PlacedValue Refusal) → AreTextsOf o source texts → schedules o schedule (Ok tt)
-    → places_texts count texts end → places o source schedule count end
-flow_texts o source schedule count texts (Ok placed) h s flow = (flow.0, source_reads o source texts flow.0 h flow.1, (tt, s, flow.2))
-flow_texts o source schedule count texts (Err refusal) h s (inl none) = absurd none
-flow_texts o source schedule count texts (Err refusal) h s (inr (records, read, rest)) = inr (records, source_reads o source texts records h read, inr (tt, s, rest))
+flow_texts : (o : Option (List FileEntry)) (source : SourceValue) (schedule : Option (List ℕ)) (rounds : Rounds) (texts : Texts) (end : Result PlacedValue Refusal) → AreTextsOf o source texts → schedules o schedule (Ok tt)
+    → places_texts rounds texts end → places o source schedule rounds end
+flow_texts o source schedule rounds texts (Ok placed) h s flow = (flow.0, source_reads o source texts flow.0 h flow.1, (tt, s, flow.2))
+flow_texts o source schedule rounds texts (Err refusal) h s (inl none) = absurd none
+flow_texts o source schedule rounds texts (Err refusal) h s (inr (records, read, rest)) = inr (records, source_reads o source texts records h read, inr (tt, s, rest))
 
 -- and where the source or the schedule is refused, so is the flow
-flow_refused : (o : Option (List FileEntry)) (source : SourceValue) (schedule : Option (List ℕ)) (count : ℕ) (refusal : Refusal) → IsRefusedBy o source schedule refusal → places o source schedule count (Err refusal)
-flow_refused o source schedule count refusal (inl read) = inl read
-flow_refused o source schedule count refusal (inr (records, read, scheduled)) = inr (records, read, inl scheduled)
+flow_refused : (o : Option (List FileEntry)) (source : SourceValue) (schedule : Option (List ℕ)) (rounds : Rounds) (refusal : Refusal) → IsRefusedBy o source schedule refusal → places o source schedule rounds (Err refusal)
+flow_refused o source schedule rounds refusal (inl read) = inl read
+flow_refused o source schedule rounds refusal (inr (records, read, scheduled)) = inr (records, read, inl scheduled)
 
 -- a refusal behind the texts comes when all files were begun: behind the levels there may be no room
-last_cells : (count : ℕ) (refusal : Refusal) (design : DesignValue) (levels : List Level) (rows : SegmentsValue) (cells : CellsValue)
-    → (legalises rows cells then λ places. places_corners count design levels rows places) (Err refusal) → last_kind refusal ≡ Schedule
-last_cells count refusal design levels rows cells (inl (cell, sites, largest, e, stuck)) = ap last_kind e
-last_cells count refusal design levels rows cells (inr (places, is, rest)) = absurd (never_behind count design levels rows places refusal rest)
+last_cells : (rounds : Rounds) (refusal : Refusal) (design : DesignValue) (levels : List Level) (rows : SegmentsValue) (cells : CellsValue)
+    → (legalises rows cells then λ places. places_corners rounds design levels rows places) (Err refusal) → last_kind refusal ≡ Schedule
+last_cells rounds refusal design levels rows cells (inl (cell, sites, largest, e, stuck)) = ap last_kind e
+last_cells rounds refusal design levels rows cells (inr (places, is, rest)) = absurd (never_behind rounds design levels rows places refusal rest)
 
-last_levels : (count : ℕ) (refusal : Refusal) (design : DesignValue) (levels : List Level) → places_levels count design levels (Err refusal) → last_kind refusal ≡ Schedule
-last_levels count refusal design levels (inl none) = absurd none
-last_levels count refusal design levels (inr (rows, same, inl none)) = absurd none
-last_levels count refusal design levels (inr (rows, same, inr (cells, are, rest))) = last_cells count refusal design levels rows cells rest
+last_levels : (rounds : Rounds) (refusal : Refusal) (design : DesignValue) (levels : List Level) → places_levels rounds design levels (Err refusal) → last_kind refusal ≡ Schedule
+last_levels rounds refusal design levels (inl none) = absurd none
+last_levels rounds refusal design levels (inr (rows, same, inl none)) = absurd none
+last_levels rounds refusal design levels (inr (rows, same, inr (cells, are, rest))) = last_cells rounds refusal design levels rows cells rest
 
-last_behind : (count : ℕ) (texts : Texts) (refusal : Refusal) → places_texts count texts (Err refusal) → last_kind refusal ≡ Schedule
-last_behind count texts refusal (inl none) = absurd none
-last_behind count texts refusal (inr (records, read, inl (fault, e, first))) = ap last_kind e
-last_behind count texts refusal (inr (records, read, inr (design, joined, inl (fault, e, first)))) = ap last_kind e
-last_behind count texts refusal (inr (records, read, inr (design, joined, inr (network, made, inl (point, e, first))))) = ap last_kind e
-last_behind count texts refusal (inr (records, read, inr (design, joined, inr (network, made, inr (done, chains, inl none))))) = absurd none
-last_behind count texts refusal (inr (records, read, inr (design, joined, inr (network, made, inr (done, chains, inr (levels, is, rest)))))) = last_levels count refusal design levels rest
+last_behind : (rounds : Rounds) (texts : Texts) (refusal : Refusal) → places_texts rounds texts (Err refusal) → last_kind refusal ≡ Schedule
+last_behind rounds texts refusal (inl none) = absurd none
+last_behind rounds texts refusal (inr (records, read, inl (fault, e, first))) = ap last_kind e
+last_behind rounds texts refusal (inr (records, read, inr (design, joined, inl (fault, e, first)))) = ap last_kind e
+last_behind rounds texts refusal (inr (records, read, inr (design, joined, inr (network, made, inl (point, e, first))))) = ap last_kind e
+last_behind rounds texts refusal (inr (records, read, inr (design, joined, inr (network, made, inr (done, chains, inl none))))) = absurd none
+last_behind rounds texts refusal (inr (records, read, inr (design, joined, inr (network, made, inr (done, chains, inr (levels, is, rest)))))) = last_levels rounds refusal design levels rest
 
 pub covered_take : (f f' : FolderState) (source : SourceValue) (schedule : Option (List ℕ)) (s : Stop) → StopsTaking f f' source schedule s → CoversStop None s
 covered_take f f' source schedule (stop.Refused refusal) h = h.3
 covered_take f f' source schedule (stop.ReadFault kind) h = tt
 covered_take f f' source schedule stop.Memory h = tt
 
-pub covered_place : (count : ℕ) (texts : Texts) (s : Stop) → Places count texts (Err s) → CoversStop (Some texts) s
-covered_place count texts (stop.Refused refusal) h = h.1
-covered_place count texts (stop.ReadFault kind) h = tt
-covered_place count texts stop.Memory h = tt
+pub covered_place : (rounds : Rounds) (texts : Texts) (s : Stop) → Places rounds texts (Err s) → CoversStop (Some texts) s
+covered_place rounds texts (stop.Refused refusal) h = h.1
+covered_place rounds texts (stop.ReadFault kind) h = tt
+covered_place rounds texts stop.Memory h = tt
 
 -- what is due where the taking of the texts stopped
 pub due_take : (words : List (List ℕ)) (request : RequestValue) (f f' : FolderState) → IsRequest words request → (s : Stop) → StopsTaking f f' request.source request.schedule s
     → (line : List ℕ) → IsLineOf None s line → (s ≡ stop.Memory → ⊥) → IsDue (status_of s) words f f' line
 due_take words request f f' asked (stop.Refused refusal) h line is other = record {
-  cause = record { request = request; asked = asked; flow = flow_refused f.files request.source request.schedule request.levels refusal h.1 };
+  cause = record { request = request; asked = asked; flow = flow_refused f.files request.source request.schedule request.rounds refusal h.1 };
   read = h.2;
   subject = is.0;
   named = named_among refusal is.0 (λ records none. absurd none) is.1;
@@ -225,13 +226,13 @@ due_take words request f f' asked (stop.ReadFault kind) h line is other = record
 due_take words request f f' asked stop.Memory h line is other = absurd (other refl)
 
 -- and where what the texts make is refused
-pub due_place : (words : List (List ℕ)) (request : RequestValue) (f f' : FolderState) (taken : Taken) → IsRequest words request → Takes f f' request.source request.schedule (Ok taken) → (s : Stop) → Places request.levels taken.inputs (Err s)
+pub due_place : (words : List (List ℕ)) (request : RequestValue) (f f' : FolderState) (taken : Taken) → IsRequest words request → Takes f f' request.source request.schedule (Ok taken) → (s : Stop) → Places request.rounds taken.inputs (Err s)
     → (line : List ℕ) → IsLineOf (Some taken.inputs) s line → (s ≡ stop.Memory → ⊥) → IsDue (status_of s) words f f' line
 due_place words request f f' taken asked g (stop.Refused refusal) h line is other =
     let R : FileKind → Type 0 = λ kind. HasReadTo kind request.source request.schedule f f' in
     record {
-      cause = record { request = request; asked = asked; flow = flow_texts f.files request.source request.schedule request.levels taken.inputs (Err refusal) g.1 g.2 h.0 };
-      read = subst R (sym (last_behind request.levels taken.inputs refusal h.0)) g.3;
+      cause = record { request = request; asked = asked; flow = flow_texts f.files request.source request.schedule request.rounds taken.inputs (Err refusal) g.1 g.2 h.0 };
+      read = subst R (sym (last_behind request.rounds taken.inputs refusal h.0)) g.3;
       subject = is.0;
       named = named_among refusal is.0 (λ records read. source_reads f.files request.source taken.inputs records g.1 read) is.1;
       line = is.2;
@@ -239,11 +240,11 @@ due_place words request f f' taken asked g (stop.Refused refusal) h line is othe
 due_place words request f f' taken asked g (stop.ReadFault kind) h line is other = absurd h
 due_place words request f f' taken asked g stop.Memory h line is other = absurd (other refl)
 
-pub placed_at : (words : List (List ℕ)) (request : RequestValue) (f f' : FolderState) (taken : Taken) (placed : Placed) → IsRequest words request → Takes f f' request.source request.schedule (Ok taken) → Places request.levels taken.inputs (Ok placed)
+pub placed_at : (words : List (List ℕ)) (request : RequestValue) (f f' : FolderState) (taken : Taken) (placed : Placed) → IsRequest words request → Takes f f' request.source request.schedule (Ok taken) → Places request.rounds taken.inputs (Ok placed)
     → IsPlacedAt words request f f' (placed_value placed)
 placed_at words request f f' taken placed asked g h = record {
   asked = asked;
-  flow = flow_texts f.files request.source request.schedule request.levels taken.inputs (Ok (placed_value placed)) g.1 g.2 h.0;
+  flow = flow_texts f.files request.source request.schedule request.rounds taken.inputs (Ok (placed_value placed)) g.1 g.2 h.0;
   read = g.3;
   legal = record {
     records = h.1.records;
@@ -278,10 +279,10 @@ refused_end refusal = Err refusal
 pub only_refused : OneAnswer → OneRequest → (files : List FileEntry) (words : List (List ℕ)) (f f' : FolderState) (s s' : SinkState) (refusal : Refusal) (status : Status)
     → f.files ≡ Some files → IsCause words (Some files) refusal → AreReadsCalm f f' → Says status words f f' s s' → (status ≡ Refused refusal) ⊎ (status ≡ Memory)
 only_refused one ask files words f f' s s' refusal status is cause calm said = by_status status said where
-  ended : (request : RequestValue) (end : Result PlacedValue Refusal) → IsRequest words request → places f.files request.source request.schedule request.levels end → end ≡ Err refusal
+  ended : (request : RequestValue) (end : Result PlacedValue Refusal) → IsRequest words request → places f.files request.source request.schedule request.rounds end → end ≡ Err refusal
   ended request end asked flow =
-      let P : Option (List FileEntry) → Type 0 = λ o. places o request.source request.schedule request.levels end in
-      one_end one files request.source request.schedule request.levels end (Err refusal) (subst P is flow) (same_flow ask words (Some files) cause.request request (Err refusal) cause.asked asked cause.flow)
+      let P : Option (List FileEntry) → Type 0 = λ o. places o request.source request.schedule request.rounds end in
+      one_end one files request.source request.schedule request.rounds end (Err refusal) (subst P is flow) (same_flow ask words (Some files) cause.request request (Err refusal) cause.asked asked cause.flow)
 
   no_text : (placed : PlacedValue) → Ok placed ≡ Err refusal → ⊥
   no_text placed e = cc
@@ -301,10 +302,10 @@ only_refused one ask files words f f' s s' refusal status is cause calm said = b
 pub complete : OneAnswer → OneRequest → (files : List FileEntry) (words : List (List ℕ)) (f f' : FolderState) (s s' : SinkState) (status : Status)
     → f.files ≡ Some files → IsPlaceable words files → AreReadsCalm f f' → AreWritesCalm f f' → ArePutsCalm s s' → Says status words f f' s s' → (status ≡ Done) ⊎ (status ≡ Memory)
 complete one ask files words f f' s s' status is given calm still quiet said = by_status status said where
-  no_refusal : (refusal : Refusal) (request : RequestValue) → IsRequest words request → places f.files request.source request.schedule request.levels (Err refusal) → ⊥
+  no_refusal : (refusal : Refusal) (request : RequestValue) → IsRequest words request → places f.files request.source request.schedule request.rounds (Err refusal) → ⊥
   no_refusal refusal request asked flow =
-      let P : Option (List FileEntry) → Type 0 = λ o. places o request.source request.schedule request.levels (Err refusal) in
-      never_refused one files given.request.source given.request.schedule given.request.levels given.records given.design given.network refusal given.accepted given.scheduled given.joined given.wired given.chains given.room
+      let P : Option (List FileEntry) → Type 0 = λ o. places o request.source request.schedule request.rounds (Err refusal) in
+      never_refused one files given.request.source given.request.schedule given.request.rounds given.records given.design given.network refusal given.accepted given.scheduled given.joined given.wired given.chains given.room
       (same_flow ask words (Some files) request given.request (Err refusal) asked given.asked (subst P is flow))
 
   unwritten : {name : List ℕ} {placed : PlacedValue} → IsUnwritten name placed f f' s s' → ⊥

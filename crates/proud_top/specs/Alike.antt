@@ -11,7 +11,7 @@ pub record AskForTheSame (words words' : List (List ℕ)) : Type 0 where
   pub asked : IsRequest words request
   pub asked' : IsRequest words' request'
   pub source : request.source ≡ request'.source
-  pub levels : request.levels ≡ request'.levels
+  pub rounds : request.rounds ≡ request'.rounds
   pub out : request.out ≡ request'.out
 
 -- both runs left the same files, and put the same text behind what their sinks held

@@ -19,6 +19,8 @@ use Rattle.proud_top.specs.declared.status.Refusal.{Refusal}
 use Rattle.proud_top.specs.declared.status.Refusal.TheVariants.{TooLong, Text, Design, Net, Unanchored, NoRoom}
 use Rattle.book_files.specs.Loading.{HasLongText}
 use Rattle.proud_top.specs.Accepted.{Accepts, IsAccepted, IsTooLong, IsBadText, HasBadText}
+use Rattle.level_run.specs.declared.rounds.Rounds.{Rounds}
+use Rattle.level_run.specs.Rounds.{last_round}
 use Rattle.level_run.specs.declared.level.Level.{Level}
 use Rattle.level_run.specs.Levels.{IsGap, level_at}
 use Rattle.row_space.specs.Values.{SegmentsValue}
@@ -111,20 +113,20 @@ abbrev pub reaches : NetworkValue → Result (Unit {0}) Refusal → Type 0
 reaches network (Ok done) = (p : ℕ) → p < length network.points → HasChain (joints_of network) p
 reaches network (Err refusal) = (point : ℕ) × (refusal ≡ Unanchored point) × IsFirstUnanchored (joints_of network) point
 
--- the levels of the network, so many after the first, each solved on both axes
-abbrev pub solves : NetworkValue → ℕ → Result (List Level) Refusal → Type 0
-solves network count (Ok levels) = AreSolved network count levels
-solves network count (Err refusal) = ⊥
+-- the rounds of the network, each solved on both axes
+abbrev pub solves : NetworkValue → Rounds → Result (List Level) Refusal → Type 0
+solves network rounds (Ok levels) = AreSolved network rounds levels
+solves network rounds (Err refusal) = ⊥
 
 -- the segments of its rows
 abbrev pub spaces : DesignValue → Result SegmentsValue Refusal → Type 0
 spaces design (Ok rows) = rows ≡ segments_of design
 spaces design (Err refusal) = ⊥
 
--- its cells, with their wishes of the last level
-abbrev pub wishes : DesignValue → ℕ → List Level → Result CellsValue Refusal → Type 0
-wishes design count levels (Ok cells) = AreCells design (level_at levels count) cells
-wishes design count levels (Err refusal) = ⊥
+-- its cells, with their wishes of the last round
+abbrev pub wishes : DesignValue → Rounds → List Level → Result CellsValue Refusal → Type 0
+wishes design rounds levels (Ok cells) = AreCells design (level_at levels (last_round rounds)) cells
+wishes design rounds levels (Err refusal) = ⊥
 
 -- the places of the cells by the greedy rule, or the first of them for which no segment has the room
 abbrev pub legalises : SegmentsValue → CellsValue → Result (List Place) Refusal → Type 0
@@ -146,31 +148,31 @@ abbrev pub measures : DesignValue → List Corner → Result ℕ Refusal → Typ
 measures design corners (Ok wire) = wire ≡ wire_length design corners
 measures design corners (Err refusal) = ⊥
 
--- and with the text the report: of the design, of the gap of all levels, and of the wire length
-abbrev pub reports : DesignValue → ℕ → List Level → List ℕ → ℕ → Result PlacedValue Refusal → Type 0
-reports design count levels file wire (Ok placed) = (gap : ℕ) × IsGap levels gap × (placed.file ≡ file) × (placed.report ≡ report_of design count gap wire)
-reports design count levels file wire (Err refusal) = ⊥
+-- and with the text the report: of the design, of the gap of all rounds, and of the wire length
+abbrev pub reports : DesignValue → Rounds → List Level → List ℕ → ℕ → Result PlacedValue Refusal → Type 0
+reports design rounds levels file wire (Ok placed) = (gap : ℕ) × IsGap levels gap × (placed.file ≡ file) × (placed.report ≡ report_of design rounds.levels gap wire)
+reports design rounds levels file wire (Err refusal) = ⊥
 
 -- the steps from the places on
-abbrev pub places_corners : ℕ → DesignValue → List Level → SegmentsValue → List Place → Result PlacedValue Refusal → Type 0
-places_corners count design levels rows places = stands design rows places then λ corners. writes design corners then λ file. measures design corners then λ wire. reports design count levels file wire
+abbrev pub places_corners : Rounds → DesignValue → List Level → SegmentsValue → List Place → Result PlacedValue Refusal → Type 0
+places_corners rounds design levels rows places = stands design rows places then λ corners. writes design corners then λ file. measures design corners then λ wire. reports design rounds levels file wire
 
 -- the steps from the levels on
-abbrev pub places_levels : ℕ → DesignValue → List Level → Result PlacedValue Refusal → Type 0
-places_levels count design levels = spaces design then λ rows. wishes design count levels then λ cells. legalises rows cells then λ places. places_corners count design levels rows places
+abbrev pub places_levels : Rounds → DesignValue → List Level → Result PlacedValue Refusal → Type 0
+places_levels rounds design levels = spaces design then λ rows. wishes design rounds levels then λ cells. legalises rows cells then λ places. places_corners rounds design levels rows places
 
 -- the steps from the records on
-abbrev pub places_records : ℕ → Records → Result PlacedValue Refusal → Type 0
-places_records count records = joins records then λ design. wires design then λ network. reaches network then λ done. solves network count then λ levels. places_levels count design levels
+abbrev pub places_records : Rounds → Records → Result PlacedValue Refusal → Type 0
+places_records rounds records = joins records then λ design. wires design then λ network. reaches network then λ done. solves network rounds then λ levels. places_levels rounds design levels
 
 -- the steps from the schedule on
-abbrev pub places_scheduled : Option (List FileEntry) → Option (List ℕ) → ℕ → Records → Result PlacedValue Refusal → Type 0
-places_scheduled files schedule levels records = schedules files schedule then λ done. places_records levels records
+abbrev pub places_scheduled : Option (List FileEntry) → Option (List ℕ) → Rounds → Records → Result PlacedValue Refusal → Type 0
+places_scheduled files schedule rounds records = schedules files schedule then λ done. places_records rounds records
 
--- The whole flow: what the source is placed as with so many levels after the first, by a crew or by the schedule of this name; or the
+-- The whole flow: what the source is placed as with so many levels, each solved so often, by a crew or by the schedule of this name; or the
 -- refusal at the first step that stops.
-abbrev pub places : Option (List FileEntry) → SourceValue → Option (List ℕ) → ℕ → Result PlacedValue Refusal → Type 0
-places files source schedule levels = reads files source then places_scheduled files schedule levels
+abbrev pub places : Option (List FileEntry) → SourceValue → Option (List ℕ) → Rounds → Result PlacedValue Refusal → Type 0
+places files source schedule rounds = reads files source then places_scheduled files schedule rounds
 
 -- the last file that is begun before a refusal: behind the texts all were, and that of a schedule is the last
 abbrev pub last_kind : Refusal → FileKind

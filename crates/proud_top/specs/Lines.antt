@@ -27,7 +27,7 @@ abbrev pub ended : List ℕ → List ℕ
 ended text = text ++ 10 ∷ []
 
 abbrev pub usage_line : List ℕ
-usage_line = ended (codes "usage: proud [--levels N] [--seats N] [--out FILE] [--schedule FILE] (DESIGN | --grid R,C,K)")
+usage_line = ended (codes "usage: proud [--levels N] [--passes N] [--seats N] [--out FILE] [--schedule FILE] (DESIGN | --grid R,C,K)")
 
 abbrev pub cannot_read_line : FileKind → List ℕ
 cannot_read_line kind = ended (codes "proud: cannot read " ++ kind_text kind)

@@ -19,6 +19,7 @@ use Rattle.proud_top.specs.declared.status.Status.TheVariants.{Done, Usage, Refu
 use Rattle.proud_top.specs.declared.stop.Stop.{Stop}
 use Rattle.proud_top.specs.declared.stop.Stop.TheVariants as stop
 use Rattle.proud_top.specs.Lines.{usage_line, cannot_read_line, refusal_line}
+use Rattle.level_run.specs.Rounds.{last_round}
 use Rattle.level_run.specs.declared.level.Level.{Level}
 use Rattle.level_run.specs.Levels.{IsLevels, level_at}
 use Rattle.row_space.specs.Runs.{segments_of}
@@ -79,7 +80,7 @@ HasReadTo Schedule source schedule old new = HasReadAll source schedule old new
 pub record IsPlacedAs (words : List (List ℕ)) (old new : FolderState) (placed : PlacedValue) : Type 0 where
   pub request : RequestValue
   pub asked : IsRequest words request
-  pub flow : places old.files request.source request.schedule request.levels (Ok placed)
+  pub flow : places old.files request.source request.schedule request.rounds (Ok placed)
   pub read : HasReadAll request.source request.schedule old new
   pub legal : IsLegalText (λ records. reads old.files request.source (Ok records)) placed.file
 
@@ -87,7 +88,7 @@ pub record IsPlacedAs (words : List (List ℕ)) (old new : FolderState) (placed 
 pub record IsCause (words : List (List ℕ)) (files : Option (List FileEntry)) (refusal : Refusal) : Type 0 where
   pub request : RequestValue
   pub asked : IsRequest words request
-  pub flow : places files request.source request.schedule request.levels (Err refusal)
+  pub flow : places files request.source request.schedule request.rounds (Err refusal)
 
 -- and this is the line that says so, with the subject that the refusal names
 pub record IsRefusal (words : List (List ℕ)) (old new : FolderState) (refusal : Refusal) (text : List ℕ) : Type 0 where
@@ -254,7 +255,7 @@ pub record IsPlaceable (words : List (List ℕ)) (files : List FileEntry) : Type
   pub joined : IsJoined records design
   pub wired : IsNetwork design network
   pub chains : (p : ℕ) → p < length network.points → HasChain (joints_of network) p
-  pub room : (levels : List Level) (cells : CellsValue) → IsLevels network request.levels levels → AreCells design (level_at levels request.levels) cells
+  pub room : (levels : List Level) (cells : CellsValue) → IsLevels network request.rounds levels → AreCells design (level_at levels (last_round request.rounds)) cells
       → (sites : List Place) × IsLegalised (segments_of design) cells sites
 
 -- no count of faults rose

@@ -6,6 +6,7 @@ ghost use Rattle.book_design.specs.Values.{node_value};
 ghost use Rattle.book_design.specs.Points.{is_movable};
 ghost use Rattle.book_design.specs.WellFormed.{IsDesign};
 ghost use Rattle.level_run.specs.Levels.{level_at};
+ghost use Rattle.level_run.specs.Rounds.{IsInLimits, last_round};
 ghost use Rattle.row_legal.specs.Cells.{cells_of};
 ghost use Rattle.row_legal.specs.Ranges.{AreGoodCells};
 ghost use Rattle.row_legal.specs.Spots.{AreSitesOf};
@@ -15,7 +16,7 @@ ghost use Rattle.proud_top.specs.Forms.Cells.{IsSize, IsSized, IsWish};
 
 use book_design::{Design, Node};
 use book_text::{Memory, micro_of};
-use level_run::{Level, Levels};
+use level_run::{Level, Levels, Rounds};
 use relax_system::MOST_COORDINATE;
 use row_legal::Wish;
 use std::alloc::Global;
@@ -29,20 +30,21 @@ pub(crate) struct Cells {
     pub(crate) wishes: Vec<Wish>,
 }
 
-/// The movable nodes of a design as cells, which wish to have their middles at the mids of the last level. Star points, which have
+/// The movable nodes of a design as cells, which wish to have their middles at the mids of the last round. Star points, which have
 /// the last mids, are no cells.
 pub(crate) fn point_cells(
     alloc: Global,
     design: &Design<'_>,
     levels: &Levels,
-    count: u32,
+    rounds: Rounds,
 ) -> Result<Cells, Memory>
-    requires { IsLastOver (count_by is_movable design.now.nodes) count levels.now }
+    requires limits { IsInLimits rounds }
+    requires over { IsLastOver (count_by is_movable design.now.nodes) (last_round rounds) levels.now }
     ensures sites { IfOk result (λ cells. AreSitesOf design.now cells.sites.items) }
-    ensures wishes { IfOk result (λ cells. AreWishes design.now (level_at levels.now count) cells.wishes.items) }
+    ensures wishes { IfOk result (λ cells. AreWishes design.now (level_at levels.now (last_round rounds)) cells.wishes.items) }
     ensures good { IfOk result (λ cells. AreGoodCells (cells_of cells.sites.items cells.wishes.items)) }
 {
-    let last = &levels.as_slice()[count as usize];
+    let last = &levels.as_slice()[rounds.count() as usize - 1];
     let sites = sites(alloc, design)?;
     let wishes = wishes(alloc, design, last)?;
     Ok(Cells { sites, wishes })

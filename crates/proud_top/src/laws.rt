@@ -15,6 +15,7 @@ ghost use Rattle.book_design.specs.Answers.{HasOneJoin};
 ghost use Rattle.net_model.specs.Values.{NetworkValue};
 ghost use Rattle.net_model.specs.Answers.{HasOneNetwork};
 ghost use Rattle.level_run.specs.declared.level.Level.{Level};
+ghost use Rattle.level_run.specs.declared.rounds.Rounds.{Rounds};
 ghost use Rattle.level_run.specs.Levels.{IsLevels, IsGap};
 ghost use Rattle.row_space.specs.Values.{SegmentsValue};
 ghost use Rattle.row_legal.specs.Cells.{CellsValue};
@@ -27,7 +28,7 @@ use net_model::one_network;
 use row_legal::one_answer as one_legalisation;
 
 /// A text of each kind has one answer, the files together have one, and so have the nets of a design; a network has at most one
-/// list of levels, and levels have one gap; and the greedy rule ends in one way at most.
+/// list of rounds, and rounds have one gap; and the greedy rule ends in one way at most.
 pub(crate) fn laws()
     ensures aux { (text : List ℕ) → HasOneAnswer aux_grammar text }
     ensures nodes { (text : List ℕ) → HasOneAnswer nodes_grammar text }
@@ -38,7 +39,7 @@ pub(crate) fn laws()
     ensures schedule { (text : List ℕ) → HasOneAnswer schedule_grammar text }
     ensures join { (files : Records) → HasOneJoin files }
     ensures network { (design : DesignValue) → HasOneNetwork design }
-    ensures levels { (network : NetworkValue) (count : ℕ) (a b : List Level) → IsLevels network count a → IsLevels network count b → a ≡ b }
+    ensures levels { (network : NetworkValue) (rounds : Rounds) (a b : List Level) → IsLevels network rounds a → IsLevels network rounds b → a ≡ b }
     ensures gap { (levels : List Level) (a b : ℕ) → IsGap levels a → IsGap levels b → a ≡ b }
     ensures greedy { (rows : SegmentsValue) (cells : CellsValue) → HasOneAnswerAtMost rows cells }
 {

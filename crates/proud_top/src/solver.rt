@@ -5,13 +5,14 @@ ghost use Rattle.pad_reach.specs.Reaches.{Reaches};
 ghost use Rattle.net_model.specs.Webs.{joints_of};
 ghost use Rattle.relax_crew.specs.Crew.{IsCrewSize};
 ghost use Rattle.level_run.specs.Levels.{IsLevels};
+ghost use Rattle.level_run.specs.Rounds.{IsInLimits, last_round};
 ghost use Rattle.proud_top.specs.Solve.{AreSolved};
 ghost use Rattle.proud_top.specs.Forms.Over.{IsLastOver};
 
 use book_files::Events;
 use book_outer::Gate;
 use book_text::Memory;
-use level_run::{Levels, MOST_LEVELS, Options, levels, levels_by, levels_enclose};
+use level_run::{Levels, Options, Rounds, levels, levels_by, levels_enclose};
 use net_model::Network;
 use pad_reach::{Reach, reach_leads};
 use std::alloc::Global;
@@ -46,40 +47,41 @@ impl<'a, R: Threads + Sync, G: Gate> Solver<'a, R, G> {
         self.rt
     }
 
-    /// The levels of a network, so many after the first.
+    /// The rounds of a network.
     pub(crate) fn solve(
         &self,
         alloc: Global,
         network: &Network,
         reach: &Reach,
-        count: u32,
+        rounds: Rounds,
     ) -> Result<Levels, Memory>
         requires reach { Reaches (joints_of network.now) reach.now }
-        requires few { count ≤ MOST_LEVELS }
-        ensures solved { IfOk result (AreSolved network.now count) }
-        ensures over { IfOk result (IsLastOver (length network.now.points) count) }
+        requires limits { IsInLimits rounds }
+        ensures solved { IfOk result (AreSolved network.now rounds) }
+        ensures over { IfOk result (IsLastOver (length network.now.points) (last_round rounds)) }
     {
         levels_enclose();
         reach_leads();
         let _reach = reach;
         let _points = network.points();
-        self.levels(alloc, network, reach, count)
+        self.levels(alloc, network, reach, rounds)
     }
 
-    /// The same, of which only is said that they are the levels.
+    /// The same, of which only is said that they are the rounds.
     fn levels(
         &self,
         alloc: Global,
         network: &Network,
         reach: &Reach,
-        count: u32,
+        rounds: Rounds,
     ) -> Result<Levels, Memory>
         requires reach { Reaches (joints_of network.now) reach.now }
-        requires few { count ≤ MOST_LEVELS }
-        ensures { IfOk result (IsLevels network.now count) }
+        requires limits { IsInLimits rounds }
+        ensures { IfOk result (IsLevels network.now rounds) }
     {
         let options = Options {
-            levels: count,
+            levels: rounds.levels,
+            passes: rounds.passes,
             seats: self.seats,
         };
         match self.events {

@@ -1,6 +1,7 @@
 ghost use Rattle.std.specs.Prelude.{◌≡◌, ◌⊎◌, ℕ, List, Option, Some, Result, option_map};
 ghost use Rattle.book_outer.specs.Files.{FileEntry};
 ghost use Rattle.book_files.specs.declared.records.FileKind.{FileKind};
+ghost use Rattle.level_run.specs.declared.rounds.Rounds.{Rounds};
 ghost use Rattle.proud_top.specs.declared.status.Refusal.{Refusal};
 ghost use Rattle.proud_words.specs.Request.{SourceValue};
 ghost use Rattle.proud_top.specs.Flow.{PlacedValue, places};
@@ -25,7 +26,7 @@ use std::thread::Threads;
 ///
 /// Behind the program's name the words are those of `USAGE_LINE`, in the forms of `clap`: the name of a design's aux file, or
 /// `--grid R,C,K` for a design of R rows and C columns of cells, 1 to 64 each, with weights that the number K gives; and, where
-/// they are asked for, a number of levels, a number of seats, the output file's name, and a schedule, whose events solve in place of a crew. 4 levels and 4 seats are usual. The usual
+/// they are asked for, a number of levels, a number of passes for each, a number of seats, the output file's name, and a schedule, whose events solve in place of a crew. 4 levels, 2 passes and 4 seats are usual. The usual
 /// output file has the design's name without a final `.aux`, followed by `.proud.pl`, or is `grid.proud.pl`; it may be one of those
 /// that were read. It is made only when all is read and placed, and gets a line `NAME X Y : ORIENT` for each node. The report then
 /// gets `cells M terminals T nets N pins P`, `levels L gap G` and `wire D`, or, where the words, a file or the design is at fault, one
@@ -58,8 +59,8 @@ pub fn proud<R: Threads + Sync, F: Folder, S: Sink, G: Gate>(
         → ((result ≡ Status.Usage) ⊎ (result ≡ Status.Memory)) × (F.state folder.new ≡ F.state folder.old) }
 
     // Where the files are known, the flow has one end at most, and a run without a fault has it.
-    ensures one_end { (files : List FileEntry) (source : SourceValue) (schedule : Option (List ℕ)) (levels : ℕ) (a b : Result PlacedValue Refusal)
-        → places (Some files) source schedule levels a → places (Some files) source schedule levels b → a ≡ b }
+    ensures one_end { (files : List FileEntry) (source : SourceValue) (schedule : Option (List ℕ)) (rounds : Rounds) (a b : Result PlacedValue Refusal)
+        → places (Some files) source schedule rounds a → places (Some files) source schedule rounds b → a ≡ b }
     ensures only_refused { (files : List FileEntry) (refusal : Refusal) → (F.state folder.old).files ≡ Some files
         → IsCause words.now (Some files) refusal → AreReadsCalm (F.state folder.old) (F.state folder.new)
         → (result ≡ Status.Refused refusal) ⊎ (result ≡ Status.Memory) }
@@ -75,7 +76,7 @@ pub fn proud<R: Threads + Sync, F: Folder, S: Sink, G: Gate>(
 
 /// The line that is put where the words ask for nothing.
 const USAGE_LINE: &[u8] =
-    b"usage: proud [--levels N] [--seats N] [--out FILE] [--schedule FILE] (DESIGN | --grid R,C,K)\n";
+    b"usage: proud [--levels N] [--passes N] [--seats N] [--out FILE] [--schedule FILE] (DESIGN | --grid R,C,K)\n";
 
 /// The run: what touches the outside, step by step.
 fn run<R: Threads + Sync, F: Folder, S: Sink, G: Gate>(
@@ -99,7 +100,7 @@ fn run<R: Threads + Sync, F: Folder, S: Sink, G: Gate>(
         Err(stop) => return refuse(alloc, report, stop, None),
     };
     let solver = Solver::new(rt, gate, request.seats, taken.events.as_ref());
-    match place(&solver, alloc, &taken.inputs, request.levels) {
+    match place(&solver, alloc, &taken.inputs, request.rounds) {
         Ok(placed) => deliver(folder, report, request.out.as_str(), &placed),
         Err(stop) => refuse(alloc, report, stop, Some(&taken.inputs)),
     }

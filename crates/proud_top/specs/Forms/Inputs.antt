@@ -11,6 +11,7 @@ use Rattle.book_files.specs.Entries.{AuxEntry}
 use Rattle.book_files.specs.AuxRules.{aux_grammar}
 use Rattle.book_files.specs.declared.loading.TheConstants.{MOST_BYTES}
 use Rattle.book_design.specs.Records.{Records}
+use Rattle.level_run.specs.declared.rounds.Rounds.{Rounds}
 use Rattle.proud_top.specs.declared.status.Refusal.{Refusal}
 use Rattle.proud_top.specs.Beside.{beside}
 use Rattle.proud_top.specs.Accepted.{Reads, IsFaultOf}
@@ -47,8 +48,8 @@ parses texts (Ok records) = AreRecords texts records
 parses texts (Err refusal) = ⊥
 
 -- the flow from the texts on
-abbrev pub places_texts : ℕ → Texts → Result PlacedValue Refusal → Type 0
-places_texts count texts = parses texts then places_records count
+abbrev pub places_texts : Rounds → Texts → Result PlacedValue Refusal → Type 0
+places_texts rounds texts = parses texts then places_records rounds
 
 -- the file of the name holds the text
 pub record Holds (files : List FileEntry) (name text : List ℕ) : Type 0 where

@@ -19,6 +19,7 @@ use Rattle.row_legal.specs.declared.fault.LegalError.{LegalError}
 use Rattle.row_legal.specs.declared.fault.LegalError.TheVariants as legal_error
 use Rattle.book_files.specs.declared.records.FileKind.{FileKind}
 use Rattle.book_files.specs.declared.records.FileKind.TheVariants.{Scl, Schedule}
+use Rattle.level_run.specs.declared.rounds.Rounds.{Rounds}
 use Rattle.proud_top.specs.Order.{rank}
 use Rattle.proud_top.specs.declared.status.Refusal.{Refusal}
 use Rattle.proud_top.specs.declared.status.Refusal.TheVariants.{Design, Net, Unanchored, NoRoom}
@@ -133,11 +134,11 @@ Covers (Some texts) refusal = HasNamed texts refusal
 
 -- What the flow from the texts on ends with, in which the cells stand legally; or the refusal that stops it, which names what is the
 -- texts'.
-abbrev pub Places : ℕ → Texts → Result Placed Stop → Type 0
-Places count texts (Ok placed) = places_texts count texts (Ok (placed_value placed)) × IsLegalText (AreRecords texts) placed.file.items
-Places count texts (Err (Refused refusal)) = places_texts count texts (Err refusal) × HasNamed texts refusal
-Places count texts (Err (ReadFault kind)) = ⊥
-Places count texts (Err Memory) = Unit {0}
+abbrev pub Places : Rounds → Texts → Result Placed Stop → Type 0
+Places rounds texts (Ok placed) = places_texts rounds texts (Ok (placed_value placed)) × IsLegalText (AreRecords texts) placed.file.items
+Places rounds texts (Err (Refused refusal)) = places_texts rounds texts (Err refusal) × HasNamed texts refusal
+Places rounds texts (Err (ReadFault kind)) = ⊥
+Places rounds texts (Err Memory) = Unit {0}
 
 abbrev pub CoversStop : Option Texts → Stop → Type 0
 CoversStop texts (Refused refusal) = Covers texts refusal

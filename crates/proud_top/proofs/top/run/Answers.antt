@@ -48,7 +48,7 @@ pub returns-in-Ok-place-clause-misused : goal.returns-in-Ok-place-clause-misused
 returns-in-Ok-place-clause-misused g c none = absurd (none (request_value c.in-Ok.request) c.in-Ok.ensures.asked)
 
 pub refuse-requires-in-Err-place : goal.refuse-requires-in-Err-place
-refuse-requires-in-Err-place g c = covered_place c.in-Ok.request.levels _ c.in-Err-place.stop c.in-Err-place.ensures
+refuse-requires-in-Err-place g c = covered_place c.in-Ok.request.rounds _ c.in-Err-place.stop c.in-Err-place.ensures
 
 pub returns-clause-says : goal.returns-clause-says
 returns-clause-says g c =
