@@ -1,4 +1,4 @@
-//! How often the regions are cut, and where the cells come to stand. All expected texts were worked out by hand.
+//! How often the regions are cut and each level is solved, and where the cells come to stand. All expected texts were worked out by hand.
 
 use run_cases::{
     MIDDLE, MIDDLE_REPORT, NO_CELL, ONE_CELL, Run, THREE_PADS, TWO_CELLS, USUAL, check_runs,
@@ -47,10 +47,28 @@ const RUNS: &[Run] = &[
         b"cells 2 terminals 2 nets 3 pins 6\nlevels 1 gap 2\nwire 10\n",
     ),
     (
+        &["proud", "--levels", "1", "--passes", "1", "a.aux"],
+        TWO_CELLS,
+        APART,
+        b"cells 2 terminals 2 nets 3 pins 6\nlevels 1 gap 2\nwire 10\n",
+    ),
+    (
+        &["proud", "--levels", "1", "--passes", "8", "a.aux"],
+        TWO_CELLS,
+        APART,
+        b"cells 2 terminals 2 nets 3 pins 6\nlevels 1 gap 2\nwire 10\n",
+    ),
+    (
         &["proud", "--levels", "01", "--seats", "7", "a.aux"],
         TWO_CELLS,
         APART,
         b"cells 2 terminals 2 nets 3 pins 6\nlevels 1 gap 2\nwire 10\n",
+    ),
+    (
+        &["proud", "--levels", "12", "a.aux"],
+        ONE_CELL,
+        MIDDLE,
+        b"cells 1 terminals 2 nets 2 pins 4\nlevels 12 gap 0\nwire 10\n",
     ),
     (
         &["proud", "--levels", "12", "--seats", "1", "a.aux"],
@@ -79,6 +97,6 @@ const RUNS: &[Run] = &[
 ];
 
 #[test]
-fn levels_may_be_asked_for(rt: HostRuntime) -> Result<(), Fail> {
+fn levels_and_passes_may_be_asked_for(rt: HostRuntime) -> Result<(), Fail> {
     Ok(check_runs(&rt, rt.alloc(), RUNS)?)
 }

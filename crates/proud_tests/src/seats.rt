@@ -107,10 +107,20 @@ impl Gate for Meeting {
 /// How many systems are solved for one vector: those with 20 halvings and fewer, and the system itself.
 const SHIFTS: u64 = 21;
 
-/// Words that ask for two seats, and how many vectors there are: from below and from above, on each axis, at each level.
+/// Words that ask for two seats, and how many vectors there are: from below and from above, on each axis, in each round.
 const MEETINGS: &[(&[&str], u64)] = &[
-    (&["proud", "--levels", "0", "--seats", "2", "a.aux"], 4),
-    (&["proud", "--levels", "1", "--seats", "2", "a.aux"], 8),
+    (
+        &[
+            "proud", "--levels", "0", "--passes", "1", "--seats", "2", "a.aux",
+        ],
+        4,
+    ),
+    (
+        &[
+            "proud", "--levels", "1", "--passes", "1", "--seats", "2", "a.aux",
+        ],
+        8,
+    ),
 ];
 
 /// Each of the two seats that are asked for sees the other one inside its first sweep, in each of the solves.
@@ -155,9 +165,9 @@ impl Watch {
         Ok(Watch { words })
     }
 
-    /// In each solve for so many vectors each point has been passed once, by its owner.
+    /// In each solve for so many vectors, four of them a round, each point has been passed once, by its owner.
     fn shows(&self, rt: &impl Abort, owners: &[u8], vectors: u64) {
-        assert!(rt; vectors <= 8 && self.words.len() == owners.len());
+        assert!(rt; vectors <= 4 * 26 && self.words.len() == owners.len());
         for i in 0..owners.len() {
             let word = self.words[i].load(Ordering::SeqCst);
             assert_eq!(rt; word, vectors * SHIFTS * (100 + u64::from(owners[i])));
@@ -173,34 +183,53 @@ impl Gate for Watch {
     }
 }
 
-/// Words that ask for levels and seats, which seat owns each of the four cells, and how many vectors there are.
+/// Words that ask for levels, passes and seats, which seat owns each of the four cells, and how many vectors there are.
 type Deal = (&'static [&'static str], &'static [u8], u64);
 
 const DEALS: &[Deal] = &[
-    (&["proud", "--levels", "0", "a.aux"], &[0, 1, 2, 3], 4),
     (
-        &["proud", "--levels", "0", "--seats", "1", "a.aux"],
+        &["proud", "--levels", "0", "--passes", "1", "a.aux"],
+        &[0, 1, 2, 3],
+        4,
+    ),
+    (
+        &[
+            "proud", "--levels", "0", "--passes", "1", "--seats", "1", "a.aux",
+        ],
         &[0, 0, 0, 0],
         4,
     ),
     (
-        &["proud", "--levels", "0", "--seats", "3", "a.aux"],
+        &[
+            "proud", "--levels", "0", "--passes", "1", "--seats", "3", "a.aux",
+        ],
         &[0, 1, 2, 2],
         4,
     ),
     (
-        &["proud", "--levels", "0", "--seats", "7", "a.aux"],
+        &[
+            "proud", "--levels", "0", "--passes", "1", "--seats", "7", "a.aux",
+        ],
         &[1, 3, 5, 6],
         4,
     ),
     (
-        &["proud", "--levels", "0", "--seats", "64", "a.aux"],
+        &[
+            "proud", "--levels", "0", "--passes", "1", "--seats", "64", "a.aux",
+        ],
         &[15, 31, 47, 63],
         4,
     ),
-    (&["proud", "--levels", "1", "a.aux"], &[0, 1, 2, 3], 8),
+    (&["proud", "--levels", "0", "a.aux"], &[0, 1, 2, 3], 8),
     (
-        &["proud", "--levels", "1", "--seats", "3", "a.aux"],
+        &["proud", "--levels", "0", "--passes", "3", "a.aux"],
+        &[0, 1, 2, 3],
+        12,
+    ),
+    (
+        &[
+            "proud", "--levels", "1", "--passes", "1", "--seats", "3", "a.aux",
+        ],
         &[0, 1, 2, 2],
         8,
     ),

@@ -7,7 +7,7 @@ use std::test::Fail;
 
 /// The line for words of another form.
 pub(crate) const USAGE: &[u8] =
-    b"usage: proud [--levels N] [--seats N] [--out FILE] [--schedule FILE] (DESIGN | --grid R,C,K)\n";
+    b"usage: proud [--levels N] [--passes N] [--seats N] [--out FILE] [--schedule FILE] (DESIGN | --grid R,C,K)\n";
 
 /// Words that ask for nothing.
 const USAGES: &[&[&str]] = &[
@@ -21,6 +21,10 @@ const USAGES: &[&[&str]] = &[
     &["proud", "--levels", "4"],
     &["proud", "--levels"],
     &["proud", "--levels", "4", "--levels", "4", "a.aux"],
+    &["proud", "--passes", "0", "a.aux"],
+    &["proud", "--passes", "9", "a.aux"],
+    &["proud", "--levels", "12", "--passes", "3", "a.aux"],
+    &["proud", "--passes", "6", "a.aux"],
     &["proud", "--seats", "0", "a.aux"],
     &["proud", "--seats", "65", "a.aux"],
     &["proud", "--seats", "x", "a.aux"],
