@@ -146,7 +146,7 @@ class Install(Case):
     def test_the_man_page_has_all_options_and_statuses(self):
         with open(os.path.join(TOP, "man", "proud.1"), encoding="utf-8") as file:
             page = file.read()
-        for option in ("levels", "seats", "out", "grid"):
+        for option in ("levels", "passes", "seats", "out", "schedule", "grid"):
             self.assertIn(f"\\-\\-{option}", page)
         self.assertEqual(re.findall(r"^\.B (\d)$", page, re.M), ["0", "1", "2", "3", "4", "5"])
 
