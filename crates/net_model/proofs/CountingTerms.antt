@@ -1,25 +1,28 @@
 -- How many terms a net has, and the sum of them over the nets so far.
-use Rattle.std.proofs.Common.{◌≡◌, ◌⊎◌, inl, inr, ℕ, ◌+◌, ◌-◌, ◌*◌, ◌/◌, ◌<◌, ◌≤◌, Bool, true, not, cond, eqb, ltb, List, [], ◌∷◌, ◌++◌, length, get_or, take, sym, ◌∙◌, ap, subst, arith}
-use Rattle.std.specs.Prelude.{◌&&◌, ◌==◌, filter, sum_by}
+use Rattle.std.proofs.Common.{◌≡◌, ◌⊎◌, inl, inr, ℕ, ◌+◌, ◌-◌, ◌*◌, ◌/◌, ◌<◌, ◌≤◌, Bool, true, false, not, cond, eqb, ltb, List, [], ◌∷◌, ◌++◌, length, get_or, take, refl, sym, ◌∙◌, ap, subst, arith}
+use Rattle.std.specs.Prelude.{Option, Some, None, ◌&&◌, ◌==◌, filter, sum_by}
 use Rattle.std.specs.List.{range_with_len}
+use Rattle.std.specs.Option.{is_some}
 use Rattle.std.proofs.lemmas.Nat.{mul-le}
 use Rattle.std.proofs.lemmas.Bool.{and_parts, and_right, cases_lt, lt-ltb}
-use Rattle.std.proofs.lemmas.List.{get_or-map, length-map}
+use Rattle.std.proofs.lemmas.List.{take_all, get_or-map, length-map}
 use Rattle.std.proofs.lemmas.List.Elements.{All-weaker, All-from_recursion}
+use Rattle.std.proofs.lemmas.List.Filters.{length-filter_more}
 use Rattle.std.proofs.lemmas.List.Sums.{length-filter, count_by-le-length, sum_by_more}
 use Rattle.book_design.specs.declared.parts.Pin.{Pin}
 use Rattle.book_design.specs.declared.parts.Net.{Net}
 use Rattle.book_design.specs.Values.{NetValue, DesignValue}
 use Rattle.book_design.specs.Nets.{net_value, net_values}
-use Rattle.book_design.specs.Points.{is_movable}
+use Rattle.book_design.specs.Points.{is_movable, movable_before}
 use Rattle.book_design.specs.WellFormed.{IsGoodPin, IsGoodNet, IsDesign}
 use Rattle.net_model.specs.declared.limits.TheConstants.{NET_WEIGHT, MOST_CLIQUE}
+use Rattle.net_model.specs.declared.counting.NetCount.{NetCount}
 use Rattle.net_model.specs.Clique.{first_pins, degree, share}
 use Rattle.net_model.specs.Network.{pairs, terms_of, fixed_pins, spokes_of, terms_in_pairs}
 use Rattle.net_model.specs.Numbered.{node_at, net_at}
 use Rattle.net_model.specs.Star.{has_movable, is_wide}
-use Rattle.net_model.specs.Forms.Steps.{AreAtNodes}
-use Rattle.net_model.proofs.CliqueNodes.{first_there}
+use Rattle.net_model.specs.Forms.Steps.{AreAtNodes, Counts}
+use Rattle.net_model.proofs.CliqueNodes.{pin_at, first_there}
 use Rattle.net_model.proofs.Ranges.{kept_more}
 
 -- what stands past the last net
@@ -35,6 +38,21 @@ pub fewer_pairs : (f k : ℕ) → f ≤ k → pairs f ≤ pairs k
 fewer_pairs f k h =
     let product : f * (f - 1) ≤ k * (k - 1) = mul-le f (f - 1) k (k - 1) h (omega arith) in
     omega (arith, product)
+
+-- one pin more: a node is fixed where it has no point
+fixed_by_test : (fixed none : Bool) (point : ℕ) → is_some (cond fixed None (Some point)) ≡ not none → not (not fixed) ≡ none
+fixed_by_test true true point e = refl
+fixed_by_test true false point e = cc
+fixed_by_test false true point e = cc
+fixed_by_test false false point e = refl
+
+pub counted_fixed : (design : DesignValue) (pins : List Pin) (k count : ℕ) (point : Option ℕ) (none : Bool) → k < length pins
+    → point ≡ cond (node_at design (pin_at pins k).node).fixed None (Some (movable_before design.nodes (pin_at pins k).node)) → is_some point ≡ not none
+    → count ≡ length (filter (is_fixed design) (take k pins)) → count + cond none 1 0 ≡ length (filter (is_fixed design) (take (k + 1) pins))
+counted_fixed design pins k count point none inside is test before =
+    let node = (pin_at pins k).node in
+    let fixed : is_fixed design (pin_at pins k) ≡ none = fixed_by_test (node_at design node).fixed none (movable_before design.nodes node) (sym (ap is_some is) ∙ test) in
+    omega (arith, before, length-filter_more (is_fixed design) pins k (pin_at [] 0) inside, ap (λ b. cond {A = ℕ} b 1 0) fixed)
 
 -- no more of the pins are at fixed nodes than there are
 pub few_fixed : (design : DesignValue) (pins : List Pin) → length (filter (is_fixed design) pins) ≤ length pins
@@ -77,7 +95,7 @@ abbrev pub wide_up_to : DesignValue → ℕ → List ℕ
 wide_up_to design n = filter (λ m. is_wide design (net_at design m)) (range_with_len 0 n)
 
 -- a wide net is no clique, and has a term for each of its nodes
-no_share : (d w : ℕ) → ltb MOST_CLIQUE d ≡ true → cond (ltb 1 d && not (ltb MOST_CLIQUE d)) (NET_WEIGHT * w / (d - 1)) 0 ≡ 0
+pub no_share : (d w : ℕ) → ltb MOST_CLIQUE d ≡ true → cond (ltb 1 d && not (ltb MOST_CLIQUE d)) (NET_WEIGHT * w / (d - 1)) 0 ≡ 0
 no_share d w many = ap (λ c. cond c (NET_WEIGHT * w / (d - 1)) 0) (and_right (ltb 1 d) (not (ltb MOST_CLIQUE d)) (ap not many))
 
 pub wide_terms : (design : DesignValue) (net : NetValue) → is_wide design net ≡ true → terms_in_pairs design net ≡ degree net
@@ -125,4 +143,13 @@ counted_more design n net total more stars b here inside test new small so_far =
   few = omega (arith, sum_by_more pin_count design.nets n no_net inside, so_far.few, ap pin_count here, small);
   wide = ap (λ ns. ns ++ cond b (n ∷ []) []) so_far.wide ∙ sym (kept_more (λ m. is_wide design (net_at design m)) n
       ∙ ap (λ c. wide_up_to design n ++ cond c (n ∷ []) []) (ap (is_wide design) here ∙ test));
+}
+
+-- all nets are counted
+pub counted_all : (design : DesignValue) (n : ℕ) (count : NetCount) → n ≡ length design.nets → AreCounted design n count.terms count.stars.items
+    → length count.rooms.items ≡ length design.nodes → Counts design count
+counted_all design n count end counted rooms = record {
+  terms = counted.terms ∙ ap (sum_by (terms_of design)) (take_all n design.nets (omega (arith, end)));
+  stars = counted.wide ∙ ap (wide_up_to design) end;
+  rooms = rooms;
 }

@@ -1,6 +1,6 @@
 -- What a net gives the points, one member after another.
 use Rattle.std.proofs.Common.{◌≡◌, ◌≢◌, ◌⊎◌, ℕ, ◌+◌, ◌<◌, ◌≤◌, Bool, true, false, not, ◌||◌, cond, List, [], length, get_or, take, set, refl, sym, ◌∙◌, ap, subst, inl, inr, arith}
-use Rattle.std.specs.Prelude.{Option, Some, None, ◌==◌, nat_eq}
+use Rattle.std.specs.Prelude.{All, Option, Some, None, ◌==◌, nat_eq}
 use Rattle.std.proofs.Math.Bool.{or-false}
 use Rattle.std.proofs.lemmas.Bool.{ne_eqb, eq-eqb, false≢true, cases_eq}
 use Rattle.std.proofs.lemmas.List.{take_all, map-set, get_or-map, length-map, length-set, get_or-set_same, get_or-set_other}
@@ -8,11 +8,13 @@ use Rattle.std.proofs.lemmas.List.Folds.{list_any_more}
 use Rattle.book_design.specs.declared.parts.Pin.{Pin}
 use Rattle.book_design.specs.Values.{DesignValue}
 use Rattle.book_design.specs.Points.{is_movable, movable_before}
+use Rattle.book_design.specs.WellFormed.{IsGoodPin}
 use Rattle.net_model.specs.declared.point.NetPoint.{NetPoint}
 use Rattle.net_model.specs.Values.{PointValue, point_at, point_entry, point_values}
 use Rattle.net_model.specs.Numbered.{node_at, node_of, point_nodes}
 use Rattle.net_model.specs.Forms.Joining.{is_at, AreDistinct}
 use Rattle.net_model.proofs.CliqueNodes.{pin_at, before_none}
+use Rattle.net_model.proofs.JoiningPins.{has_no_point}
 use Rattle.net_model.proofs.Movable.{IsMovableNode, StandsAtPoint, each_movable, stands_at_point}
 
 -- what stands past the end
@@ -37,11 +39,14 @@ point_by_test : (design : DesignValue) (i point : ℕ) (fixed : Bool) → (node_
 point_by_test design i point true e is = absurd cc
 point_by_test design i point false e is = record { movable = ap not e; number = cc }
 
-pub has_point : (design : DesignValue) (i point : ℕ) → ◌≡◌ {A = Option ℕ} (Some point) (cond (node_at design i).fixed None (Some (movable_before design.nodes i)))
-    → HasPoint design i point
+-- the point of a node, as a design answers it
+abbrev pub point_of : DesignValue → ℕ → Option ℕ
+point_of design i = cond (node_at design i).fixed None (Some (movable_before design.nodes i))
+
+has_point : (design : DesignValue) (i point : ℕ) → Some point ≡ point_of design i → HasPoint design i point
 has_point design i point is = point_by_test design i point (node_at design i).fixed refl is
 
-pub point_inside : (design : DesignValue) (i point : ℕ) → i < length design.nodes → HasPoint design i point → point < length (point_nodes design)
+point_inside : (design : DesignValue) (i point : ℕ) → i < length design.nodes → HasPoint design i point → point < length (point_nodes design)
 point_inside design i point inside h = let stands = own_point design i inside h.movable in omega (arith, h.number, stands.inside)
 
 -- a point that is given something where its node is seen
@@ -74,7 +79,7 @@ other_point design give pins k old new p less other before =
     before ∙ ap (by_seen give (node_of design p) (point_at old p)) (sym (unseen_more pins k (node_of design p) less other))
 
 -- a fixed member has no point
-pub given_fixed : (design : DesignValue) (give : ℕ → PointValue → PointValue) (pins : List Pin) (k : ℕ) (start points : List PointValue) → k < length pins
+given_fixed : (design : DesignValue) (give : ℕ → PointValue → PointValue) (pins : List Pin) (k : ℕ) (start points : List PointValue) → k < length pins
     → is_movable (node_at design (pin_at pins k).node) ≡ false → AreGivenAt design give (take k pins) start points
     → AreGivenAt design give (take (k + 1) pins) start points
 given_fixed design give pins k start points less fixed before = record {
@@ -102,7 +107,7 @@ here_given design give pins k q start points point less inside own unseen is bef
     ∙ ap (give (node_of design q)) old
     ∙ ap (by_seen give (node_of design q) (point_at start q)) (sym seen)
 
-pub given_movable : (design : DesignValue) (give : ℕ → PointValue → PointValue) (pins : List Pin) (k q : ℕ) (start points : List PointValue) (point : PointValue)
+given_movable : (design : DesignValue) (give : ℕ → PointValue → PointValue) (pins : List Pin) (k q : ℕ) (start points : List PointValue) (point : PointValue)
     → k < length pins → (pin_at pins k).node < length design.nodes → length (point_nodes design) ≤ length start → HasPoint design (pin_at pins k).node q
     → AreDistinct pins → point ≡ give (pin_at pins k).node (point_at points q) → AreGivenAt design give (take k pins) start points
     → AreGivenAt design give (take (k + 1) pins) start (set points q point)
@@ -136,18 +141,36 @@ entries_set points q point = map-set point_entry points q point
 pub entry_at : (points : List NetPoint) (q : ℕ) (d : NetPoint) → q < length points → point_at (point_values points) q ≡ point_entry (get_or points q d)
 entry_at points q d inside = get_or-map point_entry points q d no_point inside
 
+-- the point of a member is there
+pub member_point : (design : DesignValue) (pins : List Pin) (k q many : ℕ) → All (IsGoodPin (length design.nodes)) pins → k < length pins
+    → Some q ≡ point_of design (pin_at pins k).node → length (point_nodes design) ≤ many → q < many
+member_point design pins k q many good less is counted =
+    let member : IsGoodPin (length design.nodes) (pin_at pins k) = good k (pin_at [] 0) less in
+    omega (arith, counted, point_inside design (pin_at pins k).node q member.there (has_point design (pin_at pins k).node q is))
+
 -- a movable member's point is written, as it lies in memory
-pub given_entry : (design : DesignValue) (give : ℕ → PointValue → PointValue) (pins : List Pin) (k q : ℕ) (start points new : List NetPoint) (d point : NetPoint)
-    → k < length pins → (pin_at pins k).node < length design.nodes → length (point_nodes design) ≤ length start → HasPoint design (pin_at pins k).node q
-    → AreDistinct pins → point_entry point ≡ give (pin_at pins k).node (point_entry (get_or points q d)) → new ≡ set points q point
+pub given_some : (design : DesignValue) (give : ℕ → PointValue → PointValue) (pins : List Pin) (k q : ℕ) (start points new : List NetPoint) (d point : NetPoint)
+    → All (IsGoodPin (length design.nodes)) pins → AreDistinct pins → k < length pins → Some q ≡ point_of design (pin_at pins k).node
+    → length (point_nodes design) ≤ length start → point_entry point ≡ give (pin_at pins k).node (point_entry (get_or points q d)) → new ≡ set points q point
     → length points ≡ length start → AreGivenAt design give (take k pins) (point_values start) (point_values points)
     → AreGivenAt design give (take (k + 1) pins) (point_values start) (point_values new)
-given_entry design give pins k q start points new d point less there counted has distinct is written same before =
-    let inside : q < length points = omega (arith, same, counted, point_inside design (pin_at pins k).node q there has) in
+given_some design give pins k q start points new d point good distinct less of counted is written same before =
+    let member : IsGoodPin (length design.nodes) (pin_at pins k) = good k (pin_at [] 0) less in
+    let inside : q < length points = member_point design pins k q (length points) good less of (omega (arith, same, counted)) in
     let P : List PointValue → Type 0 = AreGivenAt design give (take (k + 1) pins) (point_values start) in
     subst P (sym (ap point_values written ∙ entries_set points q point))
-    (given_movable design give pins k q (point_values start) (point_values points) (point_entry point) less there (omega (arith, length-map start point_entry, counted)) has distinct
+    (given_movable design give pins k q (point_values start) (point_values points) (point_entry point) less member.there (omega (arith, length-map start point_entry, counted))
+    (has_point design (pin_at pins k).node q of) distinct
     (is ∙ ap (give (pin_at pins k).node) (sym (entry_at points q d inside))) before)
+
+-- a fixed member leaves them as they are
+pub given_none : (design : DesignValue) (give : ℕ → PointValue → PointValue) (pins : List Pin) (k : ℕ) (start points new : List NetPoint) → k < length pins
+    → None ≡ point_of design (pin_at pins k).node → new ≡ points → AreGivenAt design give (take k pins) (point_values start) (point_values points)
+    → AreGivenAt design give (take (k + 1) pins) (point_values start) (point_values new)
+given_none design give pins k start points new less of same before =
+    let P : List PointValue → Type 0 = AreGivenAt design give (take (k + 1) pins) (point_values start) in
+    subst P (sym (ap point_values same))
+    (given_fixed design give pins k (point_values start) (point_values points) less (has_no_point design.nodes (pin_at pins k).node of) before)
 
 -- all members are seen
 pub given_last : (design : DesignValue) (give : ℕ → PointValue → PointValue) (pins : List Pin) (k : ℕ) (start points : List PointValue) → length pins ≤ k

@@ -2,7 +2,7 @@
 use Rattle.std.proofs.Common.{◌≡◌, ℕ, suc, ◌+◌, ◌-◌, ◌*◌, ◌/◌, ◌<◌, ◌≤◌, Bool, true, false, ◌&&◌, cond, List, [], ◌∷◌, length, get_or, refl, sym, ◌∙◌, ap, subst, arith}
 use Rattle.std.specs.Prelude.{filter, sum_by, slice_index, nat_lt}
 use Rattle.std.specs.List.{range_with_len}
-use Rattle.std.proofs.lemmas.Bool.{and_parts, ltb-true}
+use Rattle.std.proofs.lemmas.Bool.{and_parts, lt-ltb, ltb-true}
 use Rattle.std.proofs.lemmas.List.{get_or-map, length-map}
 use Rattle.std.proofs.lemmas.List.Elements.{All-from_recursion}
 use Rattle.std.proofs.lemmas.List.FromFn.{length-range_with_len}
@@ -15,11 +15,11 @@ use Rattle.book_design.specs.Points.{is_movable}
 use Rattle.book_design.specs.Values.{NetValue, DesignValue}
 use Rattle.book_design.specs.WellFormed.{IsDesign, IsGoodNet}
 use Rattle.net_model.specs.declared.limits.TheConstants.{NET_WEIGHT, MOST_CLIQUE}
-use Rattle.net_model.specs.Clique.{degree}
+use Rattle.net_model.specs.Clique.{degree, share}
 use Rattle.net_model.specs.Network.{point_count}
 use Rattle.net_model.specs.Numbered.{node_at, net_at}
 use Rattle.net_model.specs.Star.{has_movable, is_wide, spoke, star_nets, star_net}
-use Rattle.net_model.proofs.CountingTerms.{few_first}
+use Rattle.net_model.proofs.CountingTerms.{few_first, no_share}
 use Rattle.net_model.proofs.StarNets.{star_net_wide}
 
 -- what is known of the net of a star point
@@ -68,6 +68,10 @@ star_net_read design nets stars k net valid e numbers less item =
     ap (λ xs. get_or xs n no_net) (sym e) ∙ get_or-map net_value nets n net no_net below ∙ ap net_value (sym here) in
     let P : NetValue → Type 0 = IsStarNet design k in
     subst P same (by_number design k valid inner)
+
+-- so it is no clique
+pub star_no_share : (design : DesignValue) (s : ℕ) (net : NetValue) → IsStarNet design s net → share net ≡ 0
+star_no_share design s net star = no_share (degree net) net.weight (lt-ltb MOST_CLIQUE (degree net) star.wide)
 
 pub spoke_is : (design : DesignValue) (s : ℕ) (net : NetValue) (k weight : ℕ) → IsStarNet design s net → k ≡ degree net → weight ≡ NET_WEIGHT * net.weight * k / (k - 1)
     → weight ≡ spoke (star_net design s)

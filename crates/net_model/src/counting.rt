@@ -23,9 +23,11 @@ pub(crate) struct NetCount {
     pub(crate) terms: u64,
     /// The wide nets, in order.
     pub(crate) stars: Vec<u32>,
+    /// For each node of the design how many neighbours its nets give it at most.
+    pub(crate) rooms: Vec<usize>,
 }
 
-/// The number of pair terms, and the wide nets.
+/// The number of pair terms, the wide nets, and the room that each node takes.
 pub(crate) fn count_nets(
     alloc: Global,
     design: &Design<'_>,
@@ -38,9 +40,11 @@ pub(crate) fn count_nets(
     let mut count = NetCount {
         terms: 0,
         stars: Vec::new(alloc),
+        rooms: vec![in alloc; 0; design.nodes().len()]?,
     };
     for (n, net) in design.nets().iter().enumerate() {
         clique.gather(net.pins.as_slice())?;
+        give_room(&mut count.rooms, net.weight, &clique.pins);
         if is_wide(design, net, &clique.pins) {
             count.stars.push(n as u32)?;
             count.terms += clique.pins.len() as u64;
@@ -49,6 +53,25 @@ pub(crate) fn count_nets(
         }
     }
     Ok(count)
+}
+
+/// Gives the nodes of these first pins of a net room for the neighbours that it gives them.
+///
+/// What is joined doesn't depend on it: where it is too little, a list of neighbours grows.
+fn give_room(rooms: &mut [usize], weight: u32, first: &[Pin])
+    requires { AreAtNodes (length rooms.old) first.now }
+{
+    let neighbours = if weight == 0 {
+        0
+    } else if first.len() > MOST_CLIQUE {
+        1
+    } else {
+        first.len().saturating_sub(1)
+    };
+    for pin in first {
+        let room = &mut rooms[pin.node as usize];
+        *room = room.saturating_add(neighbours);
+    }
 }
 
 /// Whether a net with these first pins has a star point.
@@ -66,9 +89,8 @@ fn has_movable(design: &Design<'_>, pins: &[Pin]) -> bool
     requires { AreAtNodes (length design.now.nodes) pins.now }
     ensures { result ≡ list_any (λ pin. is_movable (node_at design.now pin.node)) pins.now }
 {
-    let nodes = design.nodes();
     for pin in pins {
-        if !nodes[pin.node as usize].fixed {
+        if design.point_of(pin.node).is_some() {
             return true;
         }
     }
@@ -107,10 +129,9 @@ fn count_fixed(design: &Design<'_>, pins: &[Pin]) -> usize
     ensures { result ≡ length (filter (λ pin. not (is_movable (node_at design.now pin.node)))
         pins.now) }
 {
-    let nodes = design.nodes();
     let mut fixed = 0;
     for pin in pins {
-        if nodes[pin.node as usize].fixed {
+        if design.point_of(pin.node).is_none() {
             fixed += 1;
         }
     }

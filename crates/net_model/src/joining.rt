@@ -1,6 +1,6 @@
 //! What the cliques of a design give its points, one net after another.
 
-ghost use Rattle.std.specs.Prelude.{◌≡◌, ◌≢◌, ℕ, ◌/◌, true, [], ◌∷◌, length};
+ghost use Rattle.std.specs.Prelude.{◌≡◌, ◌≢◌, ℕ, ◌/◌, ◌<◌, ◌↔◌, IsTrue, true, [], ◌∷◌, length, slice_index};
 ghost use Rattle.std.specs.Prelude.{All, IfOk, OnOk, pos, nat_abs, ◌+ℤ◌, ◌≤ℤ◌};
 ghost use Rattle.book_files.specs.Ranges.{IsInRange};
 ghost use Rattle.book_design.specs.Values.{node_value};
@@ -8,10 +8,11 @@ ghost use Rattle.book_design.specs.Points.{is_movable};
 ghost use Rattle.book_design.specs.WellFormed.{IsGoodPin};
 ghost use Rattle.net_model.specs.Numbered.{node_at, point_nodes};
 ghost use Rattle.net_model.specs.Values.{point_entry, point_values};
-ghost use Rattle.net_model.specs.Forms.Steps.{IsUnmarked, AreJoined};
+ghost use Rattle.net_model.specs.Forms.Steps.{IsUnmarked, Counts, AreJoined};
 ghost use Rattle.net_model.specs.Forms.Joining.{AreDistinct, fixed_pin, paired_point, ArePaired};
 
 use crate::clique::{Clique, share};
+use crate::counting::NetCount;
 use crate::parts::{FixedPin, Near};
 use crate::point::NetPoint;
 use book_design::{Design, Node, Pin};
@@ -22,14 +23,22 @@ pub(crate) fn joined_points(
     alloc: Global,
     design: &Design<'_>,
     clique: &mut Clique,
+    count: &NetCount,
 ) -> Result<Vec<NetPoint>, AllocError>
     requires unmarked { IsUnmarked (length design.now.nodes) clique.old.seen.items }
+    requires counted { Counts design.now count.now }
     ensures joined { IfOk result (λ points. AreJoined design.now design.now.nets
         (point_values points.items)) }
     ensures unmarked { OnOk result (IsUnmarked (length design.now.nodes) clique.new.seen.items) }
 {
-    let mut points = unjoined_points(alloc, design)?;
-    for net in design.nets() {
+    let mut points = unjoined_points(alloc, design, &count.rooms)?;
+    let mut stars = 0;
+    for (n, net) in design.nets().iter().enumerate() {
+        if is_next(&count.stars, stars, n) {
+            // A wide net has no pairs.
+            stars += 1;
+            continue;
+        }
         clique.gather(net.pins.as_slice())?;
         let weight = share(net.weight, clique.pins.len());
         if weight > 0 {
@@ -39,19 +48,29 @@ pub(crate) fn joined_points(
     Ok(points)
 }
 
-/// The points that no net has given anything.
-fn unjoined_points(alloc: Global, design: &Design<'_>) -> Result<Vec<NetPoint>, AllocError>
+/// Whether a net is that one of these wide nets that comes behind so many of them.
+fn is_next(wide: &[u32], passed: usize, net: usize) -> bool
+    ensures { IsTrue result ↔ (passed < length wide.now) × (slice_index wide.now passed ≡ net) }
+{
+    passed < wide.len() && wide[passed] as usize == net
+}
+
+/// The points that no net has given anything. Each has room for so many neighbours as stand for its node.
+fn unjoined_points(
+    alloc: Global,
+    design: &Design<'_>,
+    rooms: &[usize],
+) -> Result<Vec<NetPoint>, AllocError>
+    requires { length rooms.now ≡ length design.now.nodes }
     ensures { IfOk result (λ points. AreJoined design.now [] (point_values points.items)) }
 {
     let mut points = Vec::new(alloc);
-    for node in design.nodes() {
+    for (i, node) in design.nodes().iter().enumerate() {
         if !node.fixed {
+            let near = Vec::with_capacity(alloc, rooms[i])?;
+            let pins = Vec::new(alloc);
             let area = design.sites_of(points.len() as u32);
-            points.push(NetPoint {
-                near: Vec::new(alloc),
-                pins: Vec::new(alloc),
-                area,
-            })?;
+            points.push(NetPoint { near, pins, area })?;
         }
     }
     Ok(points)

@@ -6,11 +6,11 @@ ghost use Rattle.book_design.specs.WellFormed.{IsDesign};
 ghost use Rattle.net_model.specs.Answers.{Answers};
 ghost use Rattle.net_model.specs.Network.{network_of, total_weight, terms};
 ghost use Rattle.net_model.specs.Star.{star_nets};
-ghost use Rattle.net_model.specs.Forms.Steps.{IsUnmarked, IsUnsummed, summed, IsHeavyPoint};
+ghost use Rattle.net_model.specs.Forms.Steps.{IsUnmarked, Counts, IsUnsummed, summed, IsHeavyPoint};
 ghost use Rattle.net_model.specs.Values.{point_entry, point_values};
 
 use crate::clique::Clique;
-use crate::counting::count_nets;
+use crate::counting::{NetCount, count_nets};
 use crate::fault::{NetError, NetFault};
 use crate::joining::joined_points;
 use crate::limits::{MOST_TERMS, MOST_WEIGHT};
@@ -33,7 +33,7 @@ pub fn network(alloc: Global, design: &Design<'_>) -> Result<Network, NetError>
     if count.terms > MOST_TERMS {
         return Err(NetError::Fault(NetFault::TooManyEdges(count.terms)));
     }
-    network_of_few(alloc, design, &mut clique, count.stars)
+    network_of_few(alloc, design, &mut clique, count)
 }
 
 /// The net of a star point of a design, by the number of star points before it.
@@ -48,24 +48,23 @@ pub fn star_net(alloc: Global, design: &Design<'_>, star: u32) -> Result<u32, Al
     Ok(count.stars[star as usize])
 }
 
-/// The network of a design without too many pair terms, with these wide nets, or its first heavy
-/// point.
+/// The network of a design without too many pair terms, or its first heavy point.
 fn network_of_few(
     alloc: Global,
     design: &Design<'_>,
     clique: &mut Clique,
-    stars: Vec<u32>,
+    count: NetCount,
 ) -> Result<Network, NetError>
     requires unmarked { IsUnmarked (length design.now.nodes) clique.old.seen.items }
     requires few { terms design.now ≤ MOST_TERMS }
-    requires stars { stars.items ≡ star_nets design.now }
+    requires counted { Counts design.now count }
     ensures { Answers design.now result }
 {
     let core = design.core();
-    let points = summed_points(alloc, design, clique, &stars)?;
+    let points = summed_points(alloc, design, clique, &count)?;
     match first_heavy(&points) {
         Some(point) => Err(NetError::Fault(NetFault::Heavy(point))),
-        None => Ok(Network::new(points, stars, core)),
+        None => Ok(Network::new(points, count.stars, core)),
     }
 }
 
@@ -74,16 +73,16 @@ fn summed_points(
     alloc: Global,
     design: &Design<'_>,
     clique: &mut Clique,
-    stars: &[u32],
+    count: &NetCount,
 ) -> Result<Vec<NetPoint>, AllocError>
     requires valid { IsDesign design.now }
     requires unmarked { IsUnmarked (length design.now.nodes) clique.old.seen.items }
-    requires stars { stars.now ≡ star_nets design.now }
+    requires counted { Counts design.now count.now }
     ensures { IfOk result
         (λ points. point_values points.items ≡ (network_of design.now).points) }
 {
-    let mut points = joined_points(alloc, design, clique)?;
-    join_stars(alloc, design, clique, stars, &mut points)?;
+    let mut points = joined_points(alloc, design, clique, count)?;
+    join_stars(alloc, design, clique, &count.stars, &mut points)?;
     merge_entries(&mut points);
     Ok(points)
 }

@@ -28,10 +28,11 @@ AreMarked pins seen = (i : ℕ) → i < length seen → slice_index_or seen i fa
 abbrev pub AreAtNodes : ℕ → List Pin → Type 0
 AreAtNodes nodes pins = All (λ pin. pin.node < nodes) pins
 
--- the number of pair terms, and the wide nets
+-- the number of pair terms, the wide nets, and a room for each node
 pub record Counts (design : DesignValue) (count : NetCount) : Type 0 where
   pub terms : count.terms ≡ terms design
   pub stars : count.stars.items ≡ star_nets design
+  pub rooms : length count.rooms.items ≡ length design.nodes
 
 -- the neighbours that a net gives a node; none of weight 0
 abbrev pub nears_in : DesignValue → ℕ → NetValue → List Near

@@ -1,10 +1,7 @@
-use Rattle.std.proofs.Common.{◌+◌, List, length, take, ap, sym, subst, arith}
-use Rattle.book_design.specs.WellFormed.{IsGoodPin}
-use Rattle.net_model.specs.Values.{PointValue, point_values}
+use Rattle.std.proofs.Common.{arith}
+use Rattle.net_model.specs.Values.{point_values}
 use Rattle.net_model.specs.Forms.Joining.{paired_point}
-use Rattle.net_model.proofs.CliqueNodes.{pin_at}
-use Rattle.net_model.proofs.JoiningPins.{has_no_point}
-use Rattle.net_model.proofs.JoiningNets.{AreGivenAt, has_point, point_inside, given_first, given_fixed, given_entry, given_last}
+use Rattle.net_model.proofs.JoiningNets.{member_point, given_first, given_some, given_none, given_last}
 use Rattle.net_model.proofs.joining.pair_members.Goals as goal
 use Rattle.net_model.proofs.joining.pair_members.Goals.{in-Some+in_ok-pair_point, in_default}
 
@@ -13,29 +10,18 @@ loop-pin-init c = given_first c.args.design.now (paired_point c.args.design.now 
 
 pub bounds-points-number : goal.bounds-points-number
 bounds-points-number c =
-    let design = c.args.design.now in
-    let pin = pin_at c.args.members.now c.loop-pin.pin-index in
-    let good : IsGoodPin (length design.nodes) pin = c.requires.good c.loop-pin.pin-index _ c.loop-pin-test.true in
-    omega (arith, c.loop-pin.auto.points, c.requires.counted, point_inside design pin.node _ good.there (has_point design pin.node _ c.in-Some.ensures.point))
+    member_point c.args.design.now c.args.members.now c.loop-pin.pin-index _ _ c.requires.good c.loop-pin-test.true c.in-Some.ensures.point (omega (arith, c.loop-pin.auto.points, c.requires.counted))
 
 pub loop-pin-preserved : goal.loop-pin-preserved
 loop-pin-preserved c =
     let design = c.args.design.now in
     let members = c.args.members.now in
     let give = paired_point design c.args.weight members in
-    let start = c.args.points.now in
-    let points = c.loop-pin.points in
-    let pin = pin_at members c.loop-pin.pin-index in
-    let good : IsGoodPin (length design.nodes) pin = c.requires.good c.loop-pin.pin-index _ c.loop-pin-test.true in
     elim c.match-point_of.branch [
       | in-Some+in_ok-pair_point w ↦
-          given_entry design give members c.loop-pin.pin-index _ start points _ _ _ c.loop-pin-test.true good.there (omega (arith, c.requires.counted))
-          (has_point design pin.node _ w.in-Some.ensures.point) c.requires.distinct w.in_ok-pair_point.ensures w.points-is c.loop-pin.auto.points c.loop-pin.invariant
-      | in_default w ↦
-          let P : List PointValue → Type 0 = AreGivenAt design give (take (c.loop-pin.pin-index + 1) members) (point_values start) in
-          subst P (sym (ap point_values w.points-is))
-          (given_fixed design give members c.loop-pin.pin-index (point_values start) (point_values points) c.loop-pin-test.true
-          (has_no_point design.nodes pin.node w.in_default.ensures.point) c.loop-pin.invariant)
+          given_some design give members c.loop-pin.pin-index _ c.args.points.now c.loop-pin.points _ _ _ c.requires.good c.requires.distinct c.loop-pin-test.true w.in-Some.ensures.point
+          (omega (arith, c.requires.counted)) w.in_ok-pair_point.ensures w.points-is c.loop-pin.auto.points c.loop-pin.invariant
+      | in_default w ↦ given_none design give members c.loop-pin.pin-index c.args.points.now c.loop-pin.points _ c.loop-pin-test.true w.in_default.ensures.point w.points-is c.loop-pin.invariant
     ]
 
 pub returns : goal.returns

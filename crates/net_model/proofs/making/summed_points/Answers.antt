@@ -1,3 +1,4 @@
+use Rattle.std.proofs.Common.{◌∙◌}
 use Rattle.net_model.specs.Values.{point_values}
 use Rattle.net_model.proofs.MakingNetwork.{joined_many, given_unsummed, summed_items}
 use Rattle.net_model.proofs.making.summed_points.Goals as goal
@@ -5,7 +6,7 @@ use Rattle.net_model.proofs.making.summed_points.Goals as goal
 pub join_stars-requires : goal.join_stars-requires
 join_stars-requires c = record {
   unmarked = c.in_ok-points.ensures.unmarked;
-  stars = c.requires.stars;
+  stars = c.deref.ensures.value ∙ c.requires.counted.stars;
   counted = joined_many c.args.design.now c.in_ok-points.points.items c.in_ok-points.ensures.joined;
 }
 
